@@ -1,0 +1,3 @@
+pub mod Pick
+pub mod Arms
+pub mod Searches

@@ -1,0 +1,157 @@
+-- The starts: what each operation's start refuses, in document 01's order, and what it writes. A start takes no step.
+use Prim.Native.Nat.{ℕ, zero, suc, _+_, _*_, _%_, _^_}
+use mathlib.Core.Bool.{Bool, true, false}
+use mathlib.Core.List.{List, [], _∷_}
+use lib.ListN.{getD}
+use lib.Dec.{eqb, ltb}
+use Rattle.base.specs.Pick.{pick, both}
+use Rattle.rules.specs.Sizes.{records, sources, nodes, threads, row32, Settings}
+use Rattle.rules.specs.Words.{shardOf}
+use Rattle.rules.specs.Pc
+use Rattle.rules.specs.Pc.{Pc, code}
+use Rattle.rules.specs.Cells
+use Rattle.rules.specs.Cells.{address}
+use Rattle.rules.specs.Rows.{stored32, stored64}
+use Rattle.rules.specs.Step.{Shared, State, state, Out, out, answer, refused, sizes, atIn, written}
+use Rattle.rules.specs.declared.Operation.{Operation}
+use Rattle.rules.specs.declared.Operation.the-variants.{Acquire, Release, Protect, Try, TryProtect, Reset, Raw, Swap, Retire, Eager, Cleanup, Shutdown}
+use Rattle.rules.specs.declared.Named.{Named}
+use Rattle.rules.specs.declared.Named.the-variants as cell
+use Rattle.rules.specs.declared.Row.{Row}
+use Rattle.rules.specs.declared.Entry.{Entry}
+
+-- ---- searches
+abbrev pub isIn : ℕ → List ℕ → Bool
+isIn n [] = false
+isIn n (x ∷ l) = pick (eqb x n) true (isIn n l)
+
+-- whether one of the list is above n
+abbrev pub isAbove : ℕ → List ℕ → Bool
+isAbove n [] = false
+isAbove n (x ∷ l) = pick (ltb n x) true (isAbove n l)
+
+-- whether word k of one of n rows of w words, from row i on, is above m
+unfoldable pub anyAbove : List ℕ → ℕ → ℕ → ℕ → ℕ → ℕ → Bool
+anyAbove l m w k i zero = false
+anyAbove l m w k i (suc n) = pick (ltb m (getD l (i * w + k) 0)) true (anyAbove l m w k (i + 1) n)
+
+-- a node is narrowed to 32 bits after it was compared
+abbrev pub narrow : ℕ → ℕ
+narrow n = n % 2 ^ 32
+
+-- ---- refusals, 0 for none
+abbrev pub orElse : ℕ → ℕ → ℕ
+orElse n m = pick (eqb n 0) m n
+
+-- 22: the record is not the thread's
+unfoldable pub notOwned : List ℕ → ℕ → ℕ → ℕ
+notOwned records t a = pick (eqb (getD records (atIn (address (cell.Holder a)) Cells.inRecords) 0) (t + 2)) 0 22
+
+-- 23: no such source
+abbrev pub notSource : ℕ → ℕ
+notSource b = pick (eqb b 0) 23 (pick (ltb sources b) 23 0)
+
+-- 24: no such node
+abbrev pub notNode : ℕ → ℕ
+notNode n = pick (ltb nodes n) 24 0
+
+-- 24 for null too; 25: not live, or in a source; 29: a source is damaged
+abbrev pub retireBy : ℕ → ℕ → Bool → Bool → ℕ
+retireBy n state linked damaged = pick (eqb n 0) 24 (pick (ltb nodes n) 24 (pick (eqb state 1) (pick linked 25 (pick damaged 29 0)) 25))
+
+unfoldable pub notRetirable : List ℕ → List ℕ → ℕ → ℕ
+notRetirable sources nodes′ n = retireBy n (getD nodes′ (atIn (address (cell.NodeState (narrow n))) Cells.inNodes) 0) (isIn (narrow n) sources) (isAbove nodes sources)
+
+-- 27: a thread is inside an operation, or a record is owned
+abbrev pub busyBy : Bool → Bool → ℕ
+busyBy inside owned = pick inside 27 (pick owned 27 0)
+
+unfoldable pub busy : List ℕ → List ℕ → ℕ
+busy rows32 records′ = busyBy (anyAbove rows32 0 row32 0 0 threads) (anyAbove records′ 1 4 3 0 records)
+
+unfoldable pub notProtectable : List ℕ → ℕ → ℕ → ℕ → ℕ
+notProtectable records t a b = orElse (notOwned records t a) (notSource b)
+
+unfoldable pub notTryable : List ℕ → ℕ → ℕ → ℕ → ℕ → ℕ
+notTryable records t a b n = orElse (notProtectable records t a b) (notNode n)
+
+unfoldable pub notRaw : List ℕ → ℕ → ℕ → ℕ → ℕ
+notRaw records t a n = orElse (notOwned records t a) (notNode n)
+
+unfoldable pub notSwappable : ℕ → ℕ → ℕ
+notSwappable b n = orElse (notSource b) (notNode n)
+
+unfoldable pub refusal : List ℕ → List ℕ → List ℕ → List ℕ → ℕ → Operation → ℕ
+refusal records sources nodes rows32 t Acquire = 0
+refusal records sources nodes rows32 t (Release a) = notOwned records t a
+refusal records sources nodes rows32 t (Protect a b) = notProtectable records t a b
+refusal records sources nodes rows32 t (Try a b n) = notTryable records t a b n
+refusal records sources nodes rows32 t (TryProtect a b n) = notTryable records t a b n
+refusal records sources nodes rows32 t (Reset a) = notOwned records t a
+refusal records sources nodes rows32 t (Raw a n) = notRaw records t a n
+refusal records sources nodes rows32 t (Swap b n) = notSwappable b n
+refusal records sources nodes rows32 t (Retire n x) = notRetirable sources nodes n
+refusal records sources nodes rows32 t Eager = 0
+refusal records sources nodes rows32 t Cleanup = 0
+refusal records sources nodes rows32 t Shutdown = busy rows32 records
+
+-- 18, 20, the operation's own n, and 29 for a damaged shutdown mark
+abbrev pub refuseBy : ℕ → ℕ → ℕ → ℕ
+refuseBy mark place n =
+    pick (eqb mark 1) 18 (pick (eqb mark 2) 18
+    (pick (eqb place (code Pc.Idle)) (pick (eqb n 0) (pick (ltb 2 mark) 29 0) n) 20))
+
+unfoldable pub refuseOf : Shared → List ℕ → ℕ → Operation → ℕ
+refuseOf s rows32 t o = refuseBy (getD (s .heads) 2 0) (getD rows32 (t * row32) 0) (refusal (s .records) (s .sources) (s .nodes) rows32 t o)
+
+-- ---- what a start writes
+abbrev pub freshAt : ℕ → ℕ → ℕ → ℕ → ℕ → ℕ → ℕ → Row
+freshAt operation place rec source node lone shard = record { place = place; operation = operation; rec = rec; next = 0; source = source; node = node; seen = 0; shard = shard; lone = lone; reclaimable = 0; unreclaimed = 0; tail = 0; done = 0; stolen = 0 ∷ 0 ∷ 0 ∷ 0 ∷ 0 ∷ 0 ∷ 0 ∷ 0 ∷ []; count = 0; rcount = 0; total = 0; due = 0; clock = 0 }
+
+abbrev pub entry : Row → Named → ℕ → Entry
+entry r c v = record { row = r; cell = c; put = v }
+
+-- only the row
+abbrev pub quietly : ℕ → ℕ → ℕ → ℕ → ℕ → Entry
+quietly operation place rec source node = entry (freshAt operation place rec source node 0 0) cell.Nothing 0
+
+-- a release gives up the record, a retire makes its node waiting, a shutdown sets the mark
+abbrev pub releases : ℕ → Entry
+releases a = entry (freshAt 2 (code Pc.D1) a 0 0 0 0) (cell.Holder a) 1
+
+abbrev pub retires : ℕ → ℕ → Entry
+retires n shard = entry (freshAt 9 (code Pc.T1) 0 0 0 n shard) (cell.NodeState n) 2
+
+abbrev pub shutsDown : Entry
+shutsDown = entry (freshAt 12 (code Pc.S1) 0 0 0 0 0) cell.Shutdown 1
+
+-- the operation is kept as its kind in a frame
+unfoldable pub begins : Settings → Operation → Entry
+begins g Acquire = quietly 1 (code Pc.A1) 0 0 0
+begins g (Release a) = releases a
+begins g (Protect a b) = quietly 3 (code Pc.V0) a b 0
+begins g (Try a b n) = quietly 4 (code Pc.V1) a b (narrow n)
+begins g (TryProtect a b n) = quietly 5 (code Pc.V1) a b (narrow n)
+begins g (Reset a) = quietly 6 (code Pc.Reset) a 0 0
+begins g (Raw a n) = quietly 7 (code Pc.Raw) a 0 (narrow n)
+begins g (Swap b n) = quietly 8 (code Pc.Swap) 0 b (narrow n)
+begins g (Retire n x) = retires (narrow n) (shardOf g x)
+begins g Eager = quietly 10 (code Pc.B1) 0 0 0
+begins g Cleanup = quietly 11 (code Pc.B1) 0 0 0
+begins g Shutdown = shutsDown
+
+unfoldable pub entered : State → ℕ → Entry → State
+entered s t e = state (written (s .cells) (address (e .cell)) (e .put)) (stored32 (s .rows32) t (e .row)) (stored64 (s .rows64) t (e .row)) (s .guards)
+
+-- ---- the start: `try_protect` (5) of null is done at once
+abbrev pub ofNull : Entry → Bool
+ofNull e = both (eqb (e .row .operation) 5) (eqb (e .row .node) 0)
+
+abbrev pub startBy : State → ℕ → ℕ → Entry → Out
+startBy s t n e = pick (eqb n 0) (pick (ofNull e) (out (answer 2 0) s) (out (answer 1 0) (entered s t e))) (refused n s)
+
+unfoldable pub startIn : Settings → State → ℕ → Operation → Out
+startIn g s t o = startBy s t (refuseOf (s .cells) (s .rows32) t o) (begins g o)
+
+unfoldable pub startOf : Settings → State → ℕ → Operation → Out
+startOf g s t o = pick (sizes s) (pick (ltb t threads) (startIn g s t o) (refused 17 s)) (refused 16 s)

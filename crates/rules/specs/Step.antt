@@ -1,0 +1,168 @@
+-- One step of a thread over the lent tables: what it reads, whether that is in range, and how its effect is applied.
+use Prim.Native.Nat.{ℕ, zero, suc, _+_, _*_, _-_, _%_, _^_}
+use mathlib.Core.Bool.{Bool, true, false}
+use mathlib.Core.List.{List, [], _∷_, _++_}
+use lib.ListN.{length, getD, set, take, drop, replicate}
+use lib.Dec.{eqb, ltb, leb}
+use Rattle.base.specs.Pick.{pick, both}
+use Rattle.rules.specs.Sizes.{records, sources, nodes, threads, words, row32, row64, steps, Settings}
+use Rattle.rules.specs.Words.{isGuarded, guardedAlso, noneGuarded, plus}
+use Rattle.rules.specs.Pc
+use Rattle.rules.specs.Pc.{code}
+use Rattle.rules.specs.Cells
+use Rattle.rules.specs.Cells.{inRange, address, accessed, nothing}
+use Rattle.rules.specs.Rows.{rowAt, rowFits, stored32, stored64, first}
+use Rattle.rules.specs.Places.{accessOf, followOf, effectOf, damaged}
+use Rattle.rules.specs.declared.Answer.{Answer}
+use Rattle.rules.specs.declared.Row.{Row}
+use Rattle.rules.specs.declared.Cell.{Cell}
+use Rattle.rules.specs.declared.Seen.{Seen}
+use Rattle.rules.specs.declared.Effect.{Effect}
+use Rattle.rules.specs.declared.Guards.{Guards}
+use Rattle.rules.specs.declared.Guards.the-variants as guards
+
+-- ---- the lent tables: the shared cells, the threads' rows and their guarded sets
+pub record Shared : Type 0 where
+  pub heads : List ℕ
+  pub counters : List ℕ
+  pub records : List ℕ
+  pub sources : List ℕ
+  pub nodes : List ℕ
+
+abbrev pub shared : List ℕ → List ℕ → List ℕ → List ℕ → List ℕ → Shared
+shared h c r s n = record { heads = h; counters = c; records = r; sources = s; nodes = n }
+
+pub record State : Type 0 where
+  pub cells : Shared
+  pub rows32 : List ℕ
+  pub rows64 : List ℕ
+  pub guards : List ℕ
+
+abbrev pub state : Shared → List ℕ → List ℕ → List ℕ → State
+state s a b g = record { cells = s; rows32 = a; rows64 = b; guards = g }
+
+pub record Out : Type 0 where
+  pub answer : Answer
+  pub state : State
+
+abbrev pub out : Answer → State → Out
+out a s = record { answer = a; state = s }
+
+abbrev pub answer : ℕ → ℕ → Answer
+answer n v = record { number = n; value = v }
+
+-- a refusal changes nothing
+abbrev pub refused : ℕ → State → Out
+refused n s = out (answer n 0) s
+
+abbrev pub sized : ℕ → ℕ → ℕ → ℕ → ℕ → ℕ → ℕ → ℕ → Bool
+sized h c r s n a b g =
+    both (eqb h 11) (both (eqb c 5) (both (eqb r (4 * records)) (both (eqb s sources) (both (eqb n (2 * nodes))
+    (both (eqb a (row32 * threads)) (both (eqb b (row64 * threads)) (eqb g (words * threads))))))))
+
+abbrev pub sizes : State → Bool
+sizes s = sized (length (s .cells .heads)) (length (s .cells .counters)) (length (s .cells .records)) (length (s .cells .sources)) (length (s .cells .nodes)) (length (s .rows32)) (length (s .rows64)) (length (s .guards))
+
+-- ---- one cell
+abbrev pub lists : Shared → List (List ℕ)
+lists s = [] ∷ s .heads ∷ s .counters ∷ s .records ∷ s .sources ∷ s .nodes ∷ []
+
+unfoldable pub fetched : Shared → Cell → ℕ
+fetched s c = getD (getD (lists s) (c .table) []) (c .at) 0
+
+-- where the cell stands in table k; past every table's end if it is of another
+abbrev pub atIn : Cell → ℕ → ℕ
+atIn c k = pick (eqb (c .table) k) (c .at) 4294967295
+
+unfoldable pub written : Shared → Cell → ℕ → Shared
+written s c v =
+    shared (set (s .heads) (atIn c Cells.heads) (v % 2 ^ 32)) (set (s .counters) (atIn c Cells.counters) v)
+    (set (s .records) (atIn c Cells.inRecords) (v % 2 ^ 32)) (set (s .sources) (atIn c Cells.inSources) (v % 2 ^ 32))
+    (set (s .nodes) (atIn c Cells.inNodes) (v % 2 ^ 32))
+
+-- ---- what a step reads
+-- the first of n record rows after row i that is not taken: unused, or damaged; 0 if there is none
+unfoldable pub untakenFrom : List ℕ → ℕ → ℕ → ℕ
+untakenFrom l i zero = 0
+untakenFrom l i (suc n) =
+    pick (eqb (getD l (i * 4 + 3) 0) 0) (i + 1)
+    (pick (ltb (threads + 1) (getD l (i * 4 + 3) 0)) (i + 1) (untakenFrom l (i + 1) n))
+
+-- only N1 looks for it
+unfoldable pub untakenFor : List ℕ → ℕ → ℕ
+untakenFor l place = pick (eqb place (code Pc.N1)) (untakenFrom l 0 records) 0
+
+-- the thread's guarded set, and the table with another in its place
+abbrev pub guardsOf : List ℕ → ℕ → List ℕ
+guardsOf g t = take words (drop (t * words) g)
+
+abbrev pub guardsPut : List ℕ → ℕ → List ℕ → List ℕ
+guardsPut g t p = take (t * words) g ++ (p ++ drop words (drop (t * words) g))
+
+unfoldable pub guardedAt : List ℕ → ℕ → ℕ → Bool
+guardedAt g t n = isGuarded (guardsOf g t) n
+
+abbrev pub seen : ℕ → ℕ → ℕ → Bool → ℕ → Bool → ℕ → Seen
+seen x y untaken guarded t flag clock = record { x = x; v = x % 2 ^ 32; y = y; w = y % 2 ^ 32; untaken = untaken; guarded = guarded; thread = t; flag = flag; clock = clock }
+
+-- the row's step reads its cell c, and l beside it
+unfoldable pub readBy : Shared → List ℕ → ℕ → Bool → ℕ → Row → Cell → Cell → ℕ → Seen
+readBy s g t flag clock r c l untaken = seen (fetched s c) (fetched s l) untaken (guardedAt g t (first r)) t flag clock
+
+-- 25 and 26 come before 29
+abbrev pub judge : Row → Bool → Effect → Effect
+judge r fits e = pick (eqb (e .number) 25) e (pick (eqb (e .number) 26) e (pick fits e (damaged r)))
+
+-- 29 where something that the step reads is out of its range, or a cell that it needs is none
+unfoldable pub judged : Row → Bool → Cell → Cell → Seen → Effect → Effect
+judged r fits c l i e = judge r (both fits (both (inRange (c .class) (i .x)) (both (inRange (l .class) (i .y)) (inRange (address (e .also) .class) 0)))) e
+
+unfoldable pub lookBy : Settings → Shared → List ℕ → List ℕ → ℕ → Bool → ℕ → Row → Cell → Cell → ℕ → Effect
+lookBy g s rows32 guards t flag clock r c l untaken =
+    judged r (rowFits g rows32 t) c l (readBy s guards t flag clock r c l untaken) (effectOf g r (readBy s guards t flag clock r c l untaken))
+
+unfoldable pub lookOf : Settings → Shared → List ℕ → List ℕ → ℕ → Bool → ℕ → Row → Effect
+lookOf g s rows32 guards t flag clock r =
+    lookBy g s rows32 guards t flag clock r (accessed (accessOf r)) (address (followOf r (untakenFor (s .records) (r .place)))) (untakenFor (s .records) (r .place))
+
+-- ---- how its effect is applied
+abbrev pub cellIf : Cell → Bool → Cell
+cellIf c writes = pick writes c nothing
+
+abbrev pub closed : Shared → Bool → Shared
+closed s b = pick b (shared (set (set (s .heads) 0 0) 1 0) (s .counters) (replicate (length (s .records)) 0) (s .sources) (s .nodes)) s
+
+abbrev pub ticked : Shared → Shared
+ticked s = shared (s .heads) (set (s .counters) 4 (plus (getD (s .counters) 4 0) 1)) (s .records) (s .sources) (s .nodes)
+
+unfoldable pub cellsGiven : Shared → Cell → Effect → Shared
+cellsGiven s c e = ticked (closed (written (written s (cellIf c (e .writes)) (e .put)) (address (e .also)) (e .to)) (e .closes))
+
+unfoldable pub guarded : List ℕ → Guards → List ℕ
+guarded set guards.Keep = set
+guarded set guards.Clear = noneGuarded set
+guarded set (guards.Set n) = guardedAlso set n
+
+unfoldable pub guardsGiven : List ℕ → ℕ → Guards → List ℕ
+guardsGiven g t m = guardsPut g t (guarded (guardsOf g t) m)
+
+unfoldable pub given : State → ℕ → Cell → Effect → State
+given s t c e = state (cellsGiven (s .cells) c e) (stored32 (s .rows32) t (e .row)) (stored64 (s .rows64) t (e .row)) (guardsGiven (s .guards) t (e .guards))
+
+-- ---- the step
+abbrev pub takeBy : State → ℕ → Cell → Effect → Out
+takeBy s t c e = pick (eqb (e .number) 29) (refused 29 s) (out (answer (e .number) (e .value)) (given s t c e))
+
+abbrev pub takeAt : Settings → State → ℕ → Bool → ℕ → Row → Out
+takeAt g s t flag clock r = takeBy s t (accessed (accessOf r)) (lookOf g (s .cells) (s .rows32) (s .guards) t flag clock r)
+
+unfoldable pub takeOf : Settings → State → ℕ → Bool → ℕ → Out
+takeOf g s t flag clock = takeAt g s t flag clock (rowAt (s .rows32) (s .rows64) t)
+
+-- 19 and 21
+unfoldable pub stepIn : Settings → State → ℕ → Bool → ℕ → Out
+stepIn g s t flag clock = pick (leb steps (getD (s .cells .counters) 4 0)) (refused 19 s) (pick (eqb (getD (s .rows32) (t * row32) 0) (code Pc.Idle)) (refused 21 s) (takeOf g s t flag clock))
+
+-- 16 and 17
+unfoldable pub stepOf : Settings → State → ℕ → Bool → ℕ → Out
+stepOf g s t flag clock = pick (sizes s) (pick (ltb t threads) (stepIn g s t flag clock) (refused 17 s)) (refused 16 s)
