@@ -1,0 +1,12 @@
+-- `ends` meets its contract. Assumes nothing.
+use borrow.Author.Needs.{needs}
+use Rattle.effects.proofs.ends.Statement.{statement}
+use Rattle.effects.proofs.ends.Tie as tie
+
+pub ends-spec : {M : Type 1} → statement M
+ends-spec =
+    tie.close
+    (tie.spec
+    (λ c κs. search needs)
+    (λ c κs. search needs)
+    (λ c. cc))

@@ -1,0 +1,269 @@
+// The rules' words for effects, one struct each, so that a place returns one of them.
+ghost use mathlib.Core.Path.{_≡_};
+ghost use Rattle.rules.specs.Rows.{idle};
+ghost use Rattle.rules.specs.Places.{answers, becomes, stores, also, clearsGuards, guarding, reclaims, closes, closing, damaged};
+use rules::Effect;
+use rules::Guards;
+use rules::Named;
+use rules::Row;
+
+// The row of a thread that is inside no operation.
+fn idle() -> Row
+    ensures { λ r. ⌜ r ≡ idle ⌝ }
+{
+    Row {
+        place: 0,
+        operation: 0,
+        rec: 0,
+        next: 0,
+        source: 0,
+        node: 0,
+        seen: 0,
+        shard: 0,
+        lone: 0,
+        reclaimable: 0,
+        unreclaimed: 0,
+        tail: 0,
+        done: 0,
+        stolen: [0, 0, 0, 0, 0, 0, 0, 0],
+        count: 0,
+        rcount: 0,
+        total: 0,
+        due: 0,
+        clock: 0,
+    }
+}
+
+// The step goes on with this row.
+pub fn quiet(row: Row) -> Effect
+    ensures { λ e. ⌜ e ≡ becomes row ⌝ }
+{
+    Effect {
+        row: row,
+        number: 0,
+        value: 0,
+        writes: false,
+        put: 0,
+        also: Named::Nothing,
+        to: 0,
+        guards: Guards::Keep,
+        closes: false,
+    }
+}
+
+// So it does, and its cell becomes `put`.
+pub fn puts(row: Row, put: u64) -> Effect
+    ensures { λ e. ⌜ e ≡ stores put (becomes row) ⌝ }
+{
+    Effect {
+        row: row,
+        number: 0,
+        value: 0,
+        writes: true,
+        put: put,
+        also: Named::Nothing,
+        to: 0,
+        guards: Guards::Keep,
+        closes: false,
+    }
+}
+
+pub fn links(row: Row, cell: Named, to: u64) -> Effect
+    ensures { λ e. ⌜ e ≡ also cell to (becomes row) ⌝ }
+{
+    Effect {
+        row: row,
+        number: 0,
+        value: 0,
+        writes: false,
+        put: 0,
+        also: cell,
+        to: to,
+        guards: Guards::Keep,
+        closes: false,
+    }
+}
+
+pub fn puts_links(row: Row, put: u64, cell: Named, to: u64) -> Effect
+    ensures { λ e. ⌜ e ≡ stores put (also cell to (becomes row)) ⌝ }
+{
+    Effect {
+        row: row,
+        number: 0,
+        value: 0,
+        writes: true,
+        put: put,
+        also: cell,
+        to: to,
+        guards: Guards::Keep,
+        closes: false,
+    }
+}
+
+fn answers(row: Row, number: u32, value: u64) -> Effect
+    ensures { λ e. ⌜ e ≡ answers number value row ⌝ }
+{
+    Effect {
+        row: row,
+        number: number,
+        value: value,
+        writes: false,
+        put: 0,
+        also: Named::Nothing,
+        to: 0,
+        guards: Guards::Keep,
+        closes: false,
+    }
+}
+
+fn answers_puts(row: Row, number: u32, value: u64, put: u64) -> Effect
+    ensures { λ e. ⌜ e ≡ stores put (answers number value row) ⌝ }
+{
+    Effect {
+        row: row,
+        number: number,
+        value: value,
+        writes: true,
+        put: put,
+        also: Named::Nothing,
+        to: 0,
+        guards: Guards::Keep,
+        closes: false,
+    }
+}
+
+fn answers_links(row: Row, number: u32, value: u64, cell: Named, to: u64) -> Effect
+    ensures { λ e. ⌜ e ≡ also cell to (answers number value row) ⌝ }
+{
+    Effect {
+        row: row,
+        number: number,
+        value: value,
+        writes: false,
+        put: 0,
+        also: cell,
+        to: to,
+        guards: Guards::Keep,
+        closes: false,
+    }
+}
+
+fn answers_puts_links(row: Row, number: u32, value: u64, put: u64, cell: Named, to: u64) -> Effect
+    ensures { λ e. ⌜ e ≡ stores put (also cell to (answers number value row)) ⌝ }
+{
+    Effect {
+        row: row,
+        number: number,
+        value: value,
+        writes: true,
+        put: put,
+        also: cell,
+        to: to,
+        guards: Guards::Keep,
+        closes: false,
+    }
+}
+
+// A cell that was read is out of its range.
+pub fn damaged(row: Row) -> Effect
+    ensures { λ e. ⌜ e ≡ damaged row ⌝ }
+{
+    answers(row, 29, 0)
+}
+
+// The operation ends, and the thread is idle: 2, 3, 25 and 26.
+pub fn ends(number: u32, value: u64) -> Effect
+    ensures { λ e. ⌜ e ≡ answers number value idle ⌝ }
+{
+    answers(idle(), number, value)
+}
+
+pub fn ends_puts(number: u32, value: u64, put: u64) -> Effect
+    ensures { λ e. ⌜ e ≡ stores put (answers number value idle) ⌝ }
+{
+    answers_puts(idle(), number, value, put)
+}
+
+pub fn ends_links(number: u32, value: u64, cell: Named, to: u64) -> Effect
+    ensures { λ e. ⌜ e ≡ also cell to (answers number value idle) ⌝ }
+{
+    answers_links(idle(), number, value, cell, to)
+}
+
+pub fn ends_puts_links(number: u32, value: u64, put: u64, cell: Named, to: u64) -> Effect
+    ensures { λ e. ⌜ e ≡ stores put (also cell to (answers number value idle)) ⌝ }
+{
+    answers_puts_links(idle(), number, value, put, cell, to)
+}
+
+// Node n is reclaimed: its row becomes 0.
+pub fn reclaims(node: u32, row: Row) -> Effect
+    ensures { λ e. ⌜ e ≡ reclaims node row ⌝ }
+{
+    Effect {
+        row: row,
+        number: 4,
+        value: node as u64,
+        writes: true,
+        put: 0,
+        also: Named::NodeState(node),
+        to: 0,
+        guards: Guards::Keep,
+        closes: false,
+    }
+}
+
+pub fn clears_guards(row: Row) -> Effect
+    ensures { λ e. ⌜ e ≡ clearsGuards row ⌝ }
+{
+    Effect {
+        row: row,
+        number: 0,
+        value: 0,
+        writes: false,
+        put: 0,
+        also: Named::Nothing,
+        to: 0,
+        guards: Guards::Clear,
+        closes: false,
+    }
+}
+
+pub fn guarding(node: u32, row: Row) -> Effect
+    ensures { λ e. ⌜ e ≡ guarding node row ⌝ }
+{
+    Effect {
+        row: row,
+        number: 0,
+        value: 0,
+        writes: false,
+        put: 0,
+        also: Named::Nothing,
+        to: 0,
+        guards: Guards::Set(node),
+        closes: false,
+    }
+}
+
+// Shutdown is over.
+pub fn closing(total: u64) -> Effect
+    ensures { λ e. ⌜ e ≡ closing total ⌝ }
+{
+    closes(idle(), total)
+}
+
+fn closes(row: Row, total: u64) -> Effect
+    ensures { λ e. ⌜ e ≡ closes row total ⌝ }
+{
+    Effect {
+        row: row,
+        number: 2,
+        value: total,
+        writes: true,
+        put: 2,
+        also: Named::Nothing,
+        to: 0,
+        guards: Guards::Keep,
+        closes: true,
+    }
+}
