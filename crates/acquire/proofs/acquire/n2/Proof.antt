@@ -1,0 +1,20 @@
+-- `acquire::n2` meets its contract. Assumes nothing.
+use Rattle.base.specs.Pick.{cases}
+use borrow.Author.Needs.{needs}
+use Rattle.acquire.proofs.acquire.n2.Statement.{statement}
+use Rattle.acquire.proofs.acquire.n2.Tie as tie
+
+pub n2-spec : {M : Type 1} → statement M
+n2-spec =
+    tie.close
+    (tie.spec
+    (λ c. search needs)
+    (λ c κs. search needs)
+    (λ c. search cases)
+    (λ c. search needs)
+    (λ c. search needs)
+    (λ c κs. search needs)
+    (λ c. search cases)
+    (λ c. search needs)
+    (λ c κs. search needs)
+    (λ c. search cases))

@@ -1,0 +1,16 @@
+-- `reclaim::empty_by` meets its contract. Assumes nothing.
+use Rattle.base.specs.Pick.{cases}
+use borrow.Author.Needs.{needs}
+use Rattle.reclaim.proofs.reclaim.empty_by.Statement.{statement}
+use Rattle.reclaim.proofs.reclaim.empty_by.Tie as tie
+
+pub empty-by-spec : {M : Type 1} → statement M
+empty-by-spec =
+    tie.close
+    (tie.spec
+    (λ c κs. search needs)
+    (λ c. search cases)
+    (λ c κs. search needs)
+    (λ c. search cases)
+    (λ c κs. search needs)
+    (λ c. search cases))

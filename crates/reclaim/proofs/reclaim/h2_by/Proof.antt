@@ -1,0 +1,14 @@
+-- `reclaim::h2_by` meets its contract. Assumes nothing.
+use Rattle.base.specs.Pick.{cases}
+use borrow.Author.Needs.{needs}
+use Rattle.reclaim.proofs.reclaim.h2_by.Statement.{statement}
+use Rattle.reclaim.proofs.reclaim.h2_by.Tie as tie
+
+pub h2-by-spec : {M : Type 1} → statement M
+h2-by-spec =
+    tie.close
+    (tie.spec
+    (λ c κs. search needs)
+    (λ c. search cases)
+    (λ c κs. search needs)
+    (λ c. search cases))

@@ -1,0 +1,16 @@
+-- `reclaim::steal_by` meets its contract. Assumes nothing.
+use Rattle.base.specs.Pick.{cases}
+use borrow.Author.Needs.{needs}
+use Rattle.reclaim.proofs.reclaim.steal_by.Statement.{statement}
+use Rattle.reclaim.proofs.reclaim.steal_by.Tie as tie
+
+pub steal-by-spec : {M : Type 1} → statement M
+steal-by-spec =
+    tie.close
+    (tie.spec
+    (λ c κs. search needs)
+    (λ c. search cases)
+    (λ c κs. search needs)
+    (λ c. search cases)
+    (λ c κs. search needs)
+    (λ c. search cases))
