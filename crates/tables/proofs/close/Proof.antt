@@ -1,0 +1,19 @@
+-- `tables::close` meets its contract.
+use Rattle.tables.proofs.close.Statement.{statement}
+use Rattle.tables.proofs.close.Tie as tie
+use borrow.Author.Needs.{needs}
+
+returns : tie.Need-returns
+returns c = (cc, cc)
+
+pub close-spec : {M : Type 1} → statement M
+close-spec =
+    tie.close
+    (tie.spec
+    (λ c κs. search needs)
+    (λ c κs. search needs)
+    (λ c κs. search needs)
+    (λ c. search needs)
+    (λ c. search needs)
+    returns
+    (λ c. search needs))

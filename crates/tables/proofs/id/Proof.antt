@@ -1,0 +1,13 @@
+-- `tables::id` meets its contract.
+use Rattle.tables.proofs.id.Statement.{statement}
+use Rattle.tables.proofs.id.Tie as tie
+use borrow.Author.Needs.{needs}
+use denote.Ref.{now}
+use lib.ListN.{List·getD-eq-default}
+use mathlib.Core.Path.{sym}
+
+returns-2 : tie.Need-returns-2
+returns-2 c = sym (List·getD-eq-default (now (c .before .args .t)) 0 (c .if1 .left))
+
+pub id-spec : {M : Type 1} → statement M
+id-spec = tie.close (tie.spec (λ c. search needs) (λ c. search needs) (λ c. search needs) returns-2)
