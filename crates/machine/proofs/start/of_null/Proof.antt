@@ -1,0 +1,11 @@
+-- `start::of_null` meets its contract. Assumes nothing.
+use Rattle.base.specs.Pick.{cases}
+use Rattle.machine.proofs.start.of_null.Statement.{statement}
+use Rattle.machine.proofs.start.of_null.Tie as tie
+
+pub of-null-spec : {M : Type 1} → statement M
+of-null-spec =
+    tie.close
+    (tie.spec
+    (λ c. search cases)
+    (λ c. search cases))

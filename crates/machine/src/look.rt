@@ -1,0 +1,171 @@
+// What a thread's step reads, whether that is in range, and what the step then does.
+ghost use mathlib.Core.Path.{_≡_};
+ghost use Prim.Native.Nat.{_<_};
+ghost use lib.ListN.{length};
+ghost use Rattle.base.specs.Pick.{both};
+ghost use Rattle.rules.specs.Sizes.{base};
+ghost use Rattle.rules.specs.Step.{shared, state, seen, readBy, judge, judged, lookBy, lookOf};
+use crate::guards::guarded_at;
+use rules::Cell;
+use rules::Effect;
+use rules::Row;
+use rules::Seen;
+
+fn seen(x: u64, y: u64, untaken: u32, guarded: bool, t: u32, flag: bool, clock: u64) -> Seen
+    ensures { λ i. ⌜ i ≡ seen x y untaken guarded t flag clock ⌝ }
+{
+    Seen {
+        x: x,
+        v: (x % 4294967296) as u32,
+        y: y,
+        w: (y % 4294967296) as u32,
+        untaken: untaken,
+        guarded: guarded,
+        thread: t,
+        flag: flag,
+        clock: clock,
+    }
+}
+
+// The row's step reads its cell c, and l beside it.
+fn read(
+    heads: &[u32],
+    counters: &[u64],
+    records: &[u32],
+    sources: &[u32],
+    nodes: &[u32],
+    guards: &[u64],
+    t: u32,
+    flag: bool,
+    clock: u64,
+    r: Row,
+    c: Cell,
+    l: Cell,
+    untaken: u32,
+) -> Seen
+    requires { ⌜ (t < 16) × (length (now guards) ≡ 1024) ⌝ }
+    ensures { λ i. ⌜ i ≡ readBy (shared (now (heads .entry)) (now (counters .entry)) (now (records .entry)) (now (sources .entry)) (now (nodes .entry))) (now (guards .entry)) t flag clock r c l untaken ⌝ }
+{
+    let x = tables::fetch(heads, counters, records, sources, nodes, c);
+    let y = tables::fetch(heads, counters, records, sources, nodes, l);
+    let guarded = guarded_at(guards, t, places::first(r));
+    seen(x, y, untaken, guarded, t, flag, clock)
+}
+
+fn all(a: bool, b: bool, c: bool, d: bool) -> bool
+    ensures { λ r. ⌜ r ≡ both a (both b (both c d)) ⌝ }
+{
+    if a {
+        if b {
+            if c {
+                return d;
+            }
+            return false;
+        }
+        return false;
+    }
+    false
+}
+
+// 25 and 26 come before 29.
+fn judge(r: Row, fits: bool, e: Effect) -> Effect
+    ensures { λ f. ⌜ f ≡ judge r fits e ⌝ }
+{
+    if e.number == 25 {
+        return e;
+    }
+    if e.number == 26 {
+        return e;
+    }
+    if fits {
+        return e;
+    }
+    effects::damaged(r)
+}
+
+// 29 where something that the step reads is out of its range, or a cell that it needs is none.
+fn judged(r: Row, fits: bool, c: Cell, l: Cell, i: Seen, e: Effect) -> Effect
+    ensures { λ f. ⌜ f ≡ judged r fits c l i e ⌝ }
+{
+    let also = e.also;
+    let a = tables::address(also);
+    let here = tables::in_range(c.class, i.x);
+    let there = tables::in_range(l.class, i.y);
+    judge(r, all(fits, here, there, tables::in_range(a.class, 0)), e)
+}
+
+fn look_by(
+    heads: &[u32],
+    counters: &[u64],
+    records: &[u32],
+    sources: &[u32],
+    nodes: &[u32],
+    rows32: &[u32],
+    guards: &[u64],
+    t: u32,
+    flag: bool,
+    clock: u64,
+    r: Row,
+    c: Cell,
+    l: Cell,
+    untaken: u32,
+) -> Effect
+    requires { ⌜ (t < 16) × (length (now guards) ≡ 1024) ⌝ }
+    ensures { λ e. ⌜ e ≡ lookBy base (shared (now (heads .entry)) (now (counters .entry)) (now (records .entry)) (now (sources .entry)) (now (nodes .entry))) (now (rows32 .entry)) (now (guards .entry)) t flag clock r c l untaken ⌝ }
+{
+    let fits = rows::row_fits(rows32, t);
+    let i = read(
+        heads,
+        counters,
+        records,
+        sources,
+        nodes,
+        guards,
+        t,
+        flag,
+        clock,
+        r,
+        c,
+        l,
+        untaken,
+    );
+    judged(r, fits, c, l, i, places::effect(r, i))
+}
+
+// What the step of a thread with this row does.
+pub fn look(
+    heads: &[u32],
+    counters: &[u64],
+    records: &[u32],
+    sources: &[u32],
+    nodes: &[u32],
+    rows32: &[u32],
+    guards: &[u64],
+    t: u32,
+    flag: bool,
+    clock: u64,
+    r: Row,
+) -> Effect
+    requires { ⌜ (t < 16) × (length (now guards) ≡ 1024) ⌝ }
+    ensures { λ e. ⌜ e ≡ lookOf base (shared (now (heads .entry)) (now (counters .entry)) (now (records .entry)) (now (sources .entry)) (now (nodes .entry))) (now (rows32 .entry)) (now (guards .entry)) t flag clock r ⌝ }
+{
+    let untaken = rows::untaken(records, r.place);
+    let c = tables::accessed(places::access(r));
+    let l = tables::address(places::follow(r, untaken));
+    look_by(
+        heads,
+        counters,
+        records,
+        sources,
+        nodes,
+        rows32,
+        guards,
+        t,
+        flag,
+        clock,
+        r,
+        c,
+        l,
+        untaken,
+    )
+}
