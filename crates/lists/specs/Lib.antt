@@ -1,0 +1,6 @@
+pub mod Occ
+pub mod Chain
+pub mod Flat
+pub mod Tab
+pub mod Each
+pub mod Heap

@@ -1,0 +1,352 @@
+-- A start over the tables as a start over the view: it is refused, it is done at once, or it is admitted and its entry is written.
+use Prim.Native.Nat.{ℕ, zero, suc, _+_, _*_, _-_, _%_, _^_, _≤_, _<_}
+use mathlib.Core.Path.{_≡_, refl, sym, ap, _∙_, subst}
+use mathlib.Core.Logic.{_≢_, _⊎_, inl, inr}
+use mathlib.Core.Bool.{Bool, true, false, false≢true, true≢false}
+use mathlib.Core.List.{List, [], _∷_}
+use lib.ListN.{length, getD, List·getD-eq-default}
+use lib.Dec.{eqb, ltb}
+use borrow.Author.Tests.{eqb-true, eqb-false, ltb-true, ltb-false}
+use native.Mathlib.Decide.{decLt}
+use native.Mathlib.Omega.{arith}
+use Rattle.base.specs.Pick.{pick, both}
+use Rattle.rules.specs.Sizes.{records, sources, nodes, threads, row32, Settings}
+use Rattle.rules.specs.Pc
+use Rattle.rules.specs.Pc.{code}
+use Rattle.rules.specs.Cells
+use Rattle.rules.specs.Cells.{address, cellAt, nowhere}
+use Rattle.rules.specs.Rows.{rowAt}
+use Rattle.rules.specs.Step.{State, Out, out, answer, refused, sizes, atIn}
+use Rattle.rules.specs.Start.{isIn, isAbove, anyAbove, narrow, orElse, notOwned, notSource, notNode, retireBy, notRetirable, busyBy, busy, notProtectable, notTryable, notRaw, notSwappable, refusal, refuseBy, refuseOf, begins, entered, ofNull, startBy, startIn, startOf}
+use Rattle.rules.specs.declared.Operation.{Operation}
+use Rattle.rules.specs.declared.Operation.the-variants.{Acquire, Release, Protect, Try, TryProtect, Reset, Raw, Swap, Retire, Eager, Cleanup, Shutdown}
+use Rattle.rules.specs.declared.Named.{Named}
+use Rattle.rules.specs.declared.Named.the-variants as cell
+use Rattle.rules.specs.declared.Answer.{Answer}
+use Rattle.rules.specs.declared.Entry.{Entry}
+use Rattle.rules.specs.declared.Row.{Row}
+use Rattle.lists.specs.Tab.{tab, tab-get, tab-length}
+use Rattle.view.specs.Field.{IsId, field, field-get}
+use Rattle.view.specs.View.{View, viewOf, InTable, get, enters}
+use Rattle.view.specs.Written.{Fits}
+use Rattle.view.specs.Given.{Sized, sized-of, view-entered, sized-entered}
+use Rattle.view.specs.Ranges.{not-first}
+use Rattle.view.specs.Calm.{Eight, pick-case}
+use Rattle.view.specs.Turn.{rowIn, row-view}
+
+-- ---- what the checks of a start leave
+abbrev pub Owned : View → ℕ → ℕ → Type 0
+Owned v t a = IsId records a × (getD (v .records .holder) a 0 ≡ t + 2)
+
+abbrev pub Admitted : View → ℕ → Operation → Type 0
+Admitted v t Acquire = Unit {0}
+Admitted v t (Release a) = Owned v t a
+Admitted v t (Protect a b) = Owned v t a × IsId sources b
+Admitted v t (Try a b n) = (Owned v t a × IsId sources b) × (n ≤ nodes)
+Admitted v t (TryProtect a b n) = (Owned v t a × IsId sources b) × (n ≤ nodes)
+Admitted v t (Reset a) = Owned v t a
+Admitted v t (Raw a n) = Owned v t a × (n ≤ nodes)
+Admitted v t (Swap b n) = IsId sources b × (n ≤ nodes)
+Admitted v t (Retire n x) = IsId nodes n × (getD (v .nodes .state) n 0 ≡ 1) × ((b : ℕ) → getD (v .sources) b 0 ≢ n)
+Admitted v t Eager = Unit {0}
+Admitted v t Cleanup = Unit {0}
+Admitted v t Shutdown = ((u : ℕ) → u < threads → rowIn v u .place ≡ 0) × ((a : ℕ) → getD (v .records .holder) a 0 ≤ 1)
+
+-- ---- tests that passed
+both-0 : (n m : ℕ) → orElse n m ≡ 0 → (n ≡ 0) × (m ≡ 0)
+both-0 n m = go (eqb n 0) refl
+  where
+    go : (b : Bool) → eqb n 0 ≡ b → pick b m n ≡ 0 → (n ≡ 0) × (m ≡ 0)
+    go true e h = (eqb-true n 0 e, h)
+    go false e h = absurd (eqb-false n 0 e h)
+
+-- a choice of k, not 0, or y that is 0 is y
+fails : (b : Bool) (k y : ℕ) → k ≢ 0 → pick b k y ≡ 0 → (b ≡ false) × (y ≡ 0)
+fails true k y ne h = absurd (ne h)
+fails false k y ne h = (refl, h)
+
+holds : (b : Bool) (k y : ℕ) → k ≢ 0 → pick b y k ≡ 0 → (b ≡ true) × (y ≡ 0)
+holds true k y ne h = (refl, h)
+holds false k y ne h = absurd (ne h)
+
+source-in : (b : ℕ) → notSource b ≡ 0 → IsId sources b
+source-in b h =
+    let p = fails (eqb b 0) 23 _ (omega arith) h in
+    let q = fails (ltb sources b) 23 0 (omega arith) (p .1) in
+    let z = eqb-false b 0 (p .0) in
+    (omega arith, ltb-false sources b (q .0))
+
+node-in : (n : ℕ) → notNode n ≡ 0 → n ≤ nodes
+node-in n h = ltb-false nodes n (fails (ltb nodes n) 24 0 (omega arith) h .0)
+
+-- a word of a table, read through an address that may be none
+module _ (l : List ℕ) (n w k class table : ℕ) (small : length l ≤ 4294967295) where
+  word-at : (id v : ℕ) → getD l (atIn (pick (eqb id 0) nowhere (pick (ltb n id) nowhere (cellAt table ((id - 1) * w + k) class))) table) 0 ≡ v → eqb 0 table ≡ false → eqb table table ≡ true → v ≢ 0 → IsId n id × (getD (field w k n l) id 0 ≡ v)
+  word-at id v h t0 t1 nz = go (eqb id 0) (ltb n id) refl refl h
+    where
+      none : getD l 4294967295 0 ≡ 0
+      none = List·getD-eq-default l 0 small
+
+      go : (a b : Bool) → eqb id 0 ≡ a → ltb n id ≡ b → getD l (atIn (pick a nowhere (pick b nowhere (cellAt table ((id - 1) * w + k) class))) table) 0 ≡ v → IsId n id × (getD (field w k n l) id 0 ≡ v)
+      go true b ea eb q = absurd (nz (sym q ∙ (rw t0 none)))
+      go false true ea eb q = absurd (nz (sym q ∙ (rw t0 none)))
+      go false false ea eb q =
+          let ne = eqb-false id 0 ea in
+          let d : IsId n id = (omega arith, ltb-false n id eb) in
+          (d, field-get w n l k id d ∙ (rw t1 at q))
+
+-- ---- searches that found nothing
+none-in : (n : ℕ) (l : List ℕ) → isIn n l ≡ false → n ≢ 0 → (b : ℕ) → getD l b 0 ≢ n
+none-in n [] h nz b e = nz (sym e)
+none-in n (x ∷ l) h nz zero e = first (eqb x n) refl h
+  where
+    first : (b : Bool) → eqb x n ≡ b → pick b true (isIn n l) ≡ false → ⊥
+    first true q k = true≢false k
+    first false q k = eqb-false x n q e
+none-in n (x ∷ l) h nz (suc b) e = none-in n l (rest (eqb x n) h) nz b e
+  where
+    rest : (b : Bool) → pick b true (isIn n l) ≡ false → isIn n l ≡ false
+    rest true k = absurd (true≢false k)
+    rest false k = k
+
+none-above : (l : List ℕ) (m w k i n : ℕ) → anyAbove l m w k i n ≡ false → (j : ℕ) → i ≤ j → j < i + n → getD l (j * w + k) 0 ≤ m
+unfolding anyAbove
+none-above l m w k i zero h j p q = absurd (omega arith)
+none-above l m w k i (suc n) h j p q = go (ltb m (getD l (i * w + k) 0)) refl h (decLt i j) (λ e lt. none-above l m w k (i + 1) n e j (omega arith) (omega arith))
+  where
+    go : (b : Bool) → ltb m (getD l (i * w + k) 0) ≡ b → pick b true (anyAbove l m w k (i + 1) n) ≡ false → Dec (i < j) → (anyAbove l m w k (i + 1) n ≡ false → i < j → getD l (j * w + k) 0 ≤ m) → getD l (j * w + k) 0 ≤ m
+    go true e f d rest = absurd (true≢false f)
+    go false e f (yes lt) rest = rest f lt
+    go false e f (no ge) rest = let q : i ≡ j = omega arith in rw q at (ltb-false m (getD l (i * w + k) 0) e)
+
+module _ (s : State) (z : Sized s) (t : ℕ) where
+  owned : (a : ℕ) → notOwned (s .cells .records) t a ≡ 0 → Owned (viewOf s) t a
+  unfolding viewOf notOwned address
+  owned a h = word-at (s .cells .records) records 4 3 5 3 (omega (arith, z .cells .records)) a (t + 2) (eqb-true _ (t + 2) (holds (eqb (getD (s .cells .records) (atIn (address (cell.Holder a)) Cells.inRecords) 0) (t + 2)) 22 0 (omega arith) h .0)) refl refl (omega arith)
+
+  protectable : (a b : ℕ) → notProtectable (s .cells .records) t a b ≡ 0 → Owned (viewOf s) t a × IsId sources b
+  unfolding notProtectable
+  protectable a b h = let p = both-0 (notOwned (s .cells .records) t a) (notSource b) h in (owned a (p .0), source-in b (p .1))
+
+  tryable : (a b n : ℕ) → notTryable (s .cells .records) t a b n ≡ 0 → (Owned (viewOf s) t a × IsId sources b) × (n ≤ nodes)
+  unfolding notTryable
+  tryable a b n h = let p = both-0 (notProtectable (s .cells .records) t a b) (notNode n) h in (protectable a b (p .0), node-in n (p .1))
+
+  raw : (a n : ℕ) → notRaw (s .cells .records) t a n ≡ 0 → Owned (viewOf s) t a × (n ≤ nodes)
+  unfolding notRaw
+  raw a n h = let p = both-0 (notOwned (s .cells .records) t a) (notNode n) h in (owned a (p .0), node-in n (p .1))
+
+  swappable : (b n : ℕ) → notSwappable b n ≡ 0 → IsId sources b × (n ≤ nodes)
+  unfolding notSwappable
+  swappable b n h = let p = both-0 (notSource b) (notNode n) h in (source-in b (p .0), node-in n (p .1))
+
+  sources-none : (n : ℕ) → n ≢ 0 → isIn n (s .cells .sources) ≡ false → (b : ℕ) → getD (viewOf s .sources) b 0 ≢ n
+  unfolding viewOf
+  sources-none n nz h zero e = nz (sym e)
+  sources-none n nz h (suc b) e = go (decLt b sources)
+    where
+      go : Dec (b < sources) → ⊥
+      go (yes q) = none-in n (s .cells .sources) h nz (b * 1 + 0) (sym (tab-get sources (λ i. getD (s .cells .sources) (i * 1 + 0) 0) b 0 q) ∙ e)
+      go (no q) = nz (sym e ∙ List·getD-eq-default (tab sources (λ i. getD (s .cells .sources) (i * 1 + 0) 0)) 0 (omega (arith, tab-length sources (λ i. getD (s .cells .sources) (i * 1 + 0) 0))))
+
+  state-at : (m : ℕ) → getD (s .cells .nodes) (atIn (address (cell.NodeState m)) Cells.inNodes) 0 ≡ 1 → IsId nodes m × (getD (viewOf s .nodes .state) m 0 ≡ 1)
+  unfolding viewOf address
+  state-at m q = word-at (s .cells .nodes) nodes 2 1 4 5 (omega (arith, z .cells .nodes)) m 1 q refl refl (omega arith)
+
+  retirable : (n x : ℕ) → notRetirable (s .cells .sources) (s .cells .nodes) n ≡ 0 → Admitted (viewOf s) t (Retire n x)
+  unfolding notRetirable
+  retirable n x h =
+      let a = fails (eqb n 0) 24 _ (omega arith) h in
+      let b = fails (ltb nodes n) 24 _ (omega arith) (a .1) in
+      let c = holds (eqb (getD (s .cells .nodes) (atIn (address (cell.NodeState (narrow n))) Cells.inNodes) 0) 1) 25 _ (omega arith) (b .1) in
+      let d = fails (isIn (narrow n) (s .cells .sources)) 25 _ (omega arith) (c .1) in
+      let le = ltb-false nodes n (b .0) in
+      let ne = eqb-false n 0 (a .0) in
+      let same : narrow n ≡ n = omega arith in
+      let w = state-at (narrow n) (eqb-true _ 1 (c .0)) in
+      (rw same at (w .0), rw same at (w .1), sources-none n ne (rw same at (d .0)))
+
+  nobody : anyAbove (s .rows32) 0 row32 0 0 threads ≡ false → (u : ℕ) → u < threads → rowIn (viewOf s) u .place ≡ 0
+  unfolding rowAt
+  nobody h u q = ap (λ (r : Row). r .place) (row-view s u q) ∙ (let k = none-above (s .rows32) 0 row32 0 0 threads h u (omega arith) (omega arith) in omega arith)
+
+  unowned : anyAbove (s .cells .records) 1 4 3 0 records ≡ false → (a : ℕ) → getD (viewOf s .records .holder) a 0 ≤ 1
+  unfolding viewOf
+  unowned h zero = omega arith
+  unowned h (suc a) = go (decLt a records)
+    where
+      go : Dec (a < records) → getD (tab records (λ i. getD (s .cells .records) (i * 4 + 3) 0)) a 0 ≤ 1
+      go (yes q) = rw (tab-get records (λ i. getD (s .cells .records) (i * 4 + 3) 0) a 0 q) (none-above (s .cells .records) 1 4 3 0 records h a (omega arith) (omega arith))
+      go (no q) = rw (List·getD-eq-default (tab records (λ i. getD (s .cells .records) (i * 4 + 3) 0)) 0 {n = a} (omega (arith, tab-length records (λ i. getD (s .cells .records) (i * 4 + 3) 0)))) (omega arith)
+
+  idle-all : busy (s .rows32) (s .cells .records) ≡ 0 → Admitted (viewOf s) t Shutdown
+  unfolding busy
+  idle-all h =
+      let a = fails (anyAbove (s .rows32) 0 row32 0 0 threads) 27 _ (omega arith) h in
+      let b = fails (anyAbove (s .cells .records) 1 4 3 0 records) 27 0 (omega arith) (a .1) in
+      (nobody (a .0), unowned (b .0))
+
+  admitted : (o : Operation) → refusal (s .cells .records) (s .cells .sources) (s .cells .nodes) (s .rows32) t o ≡ 0 → Admitted (viewOf s) t o
+  unfolding refusal
+  admitted Acquire h = tt
+  admitted (Release a) h = owned a h
+  admitted (Protect a b) h = protectable a b h
+  admitted (Try a b n) h = tryable a b n h
+  admitted (TryProtect a b n) h = tryable a b n h
+  admitted (Reset a) h = owned a h
+  admitted (Raw a n) h = raw a n h
+  admitted (Swap b n) h = swappable b n h
+  admitted (Retire n x) h = retirable n x h
+  admitted Eager h = tt
+  admitted Cleanup h = tt
+  admitted Shutdown h = idle-all h
+
+-- ---- a refusal is a number from 16 on
+abbrev High : ℕ → Type 0
+High n = (n ≡ 0) ⊎ (16 ≤ n)
+
+least : {n : ℕ} → High n → n ≢ 0 → 16 ≤ n
+least (inl e) ne = absurd (ne e)
+least (inr h) ne = h
+
+or-high : (n m : ℕ) → High n → High m → High (orElse n m)
+or-high n m a b = pick-case High (eqb n 0) _ _ (λ _. b) (λ _. a)
+
+owned-high : (l : List ℕ) (t a : ℕ) → High (notOwned l t a)
+unfolding notOwned
+owned-high l t a = pick-case High (eqb (getD l (atIn (address (cell.Holder a)) Cells.inRecords) 0) (t + 2)) _ _ (λ _. inl refl) (λ _. inr (omega arith))
+
+source-high : (b : ℕ) → High (notSource b)
+source-high b = pick-case High (eqb b 0) _ _ (λ _. inr (omega arith)) (λ _. pick-case High (ltb sources b) _ _ (λ _. inr (omega arith)) (λ _. inl refl))
+
+node-high : (n : ℕ) → High (notNode n)
+node-high n = pick-case High (ltb nodes n) _ _ (λ _. inr (omega arith)) (λ _. inl refl)
+
+retire-high : (n st : ℕ) (a b : Bool) → High (retireBy n st a b)
+retire-high n st a b = pick-case High (eqb n 0) _ _ (λ _. inr (omega arith)) (λ _. pick-case High (ltb nodes n) _ _ (λ _. inr (omega arith)) (λ _. pick-case High (eqb st 1) _ _ (λ _. pick-case High a _ _ (λ _. inr (omega arith)) (λ _. pick-case High b _ _ (λ _. inr (omega arith)) (λ _. inl refl))) (λ _. inr (omega arith))))
+
+busy-high : (a b : Bool) → High (busyBy a b)
+busy-high a b = pick-case High a _ _ (λ _. inr (omega arith)) (λ _. pick-case High b _ _ (λ _. inr (omega arith)) (λ _. inl refl))
+
+refusal-high : (s : State) (t : ℕ) (o : Operation) → High (refusal (s .cells .records) (s .cells .sources) (s .cells .nodes) (s .rows32) t o)
+unfolding refusal notProtectable notTryable notRaw notSwappable notRetirable busy
+refusal-high s t Acquire = inl refl
+refusal-high s t (Release a) = owned-high (s .cells .records) t a
+refusal-high s t (Protect a b) = or-high _ _ (owned-high (s .cells .records) t a) (source-high b)
+refusal-high s t (Try a b n) = or-high _ _ (or-high _ _ (owned-high (s .cells .records) t a) (source-high b)) (node-high n)
+refusal-high s t (TryProtect a b n) = or-high _ _ (or-high _ _ (owned-high (s .cells .records) t a) (source-high b)) (node-high n)
+refusal-high s t (Reset a) = owned-high (s .cells .records) t a
+refusal-high s t (Raw a n) = or-high _ _ (owned-high (s .cells .records) t a) (node-high n)
+refusal-high s t (Swap b n) = or-high _ _ (source-high b) (node-high n)
+refusal-high s t (Retire n x) = retire-high n (getD (s .cells .nodes) (atIn (address (cell.NodeState (narrow n))) Cells.inNodes) 0) (isIn (narrow n) (s .cells .sources)) (isAbove nodes (s .cells .sources))
+refusal-high s t Eager = inl refl
+refusal-high s t Cleanup = inl refl
+refusal-high s t Shutdown = busy-high (anyAbove (s .rows32) 0 row32 0 0 threads) (anyAbove (s .cells .records) 1 4 3 0 records)
+
+refuse-high : (mark place n : ℕ) → High n → High (refuseBy mark place n)
+refuse-high mark place n h = pick-case High (eqb mark 1) _ _ (λ _. inr (omega arith)) (λ _. pick-case High (eqb mark 2) _ _ (λ _. inr (omega arith)) (λ _. pick-case High (eqb place (code Pc.Idle)) _ _ (λ _. pick-case High (eqb n 0) _ _ (λ _. pick-case High (ltb 2 mark) _ _ (λ _. inr (omega arith)) (λ _. inl refl)) (λ _. h)) (λ _. inr (omega arith))))
+
+-- ---- the start
+pub data Begin (g : Settings) (s : State) (t : ℕ) (o : Operation) (w : Out) : Type 0 where
+  stays : (n : ℕ) → 16 ≤ n → w ≡ refused n s → Begin g s t o w
+  nothing : w ≡ out (answer 2 0) s → Begin g s t o w
+  begun : t < threads → viewOf s .heads .mark ≡ 0 → rowIn (viewOf s) t .place ≡ code Pc.Idle → Admitted (viewOf s) t o → w .answer ≡ answer 1 0 → viewOf (w .state) ≡ enters t (begins g o) (viewOf s) → Sized (w .state) → Begin g s t o w
+
+-- the cell of an entry is one, what is put into it fits, and the row has eight heads
+entry-reach : (g : Settings) (v : View) (t : ℕ) (o : Operation) → Admitted v t o → InTable (begins g o .cell)
+unfolding begins
+entry-reach g v t Acquire h = tt
+entry-reach g v t (Release a) h = h .0
+entry-reach g v t (Protect a b) h = tt
+entry-reach g v t (Try a b n) h = tt
+entry-reach g v t (TryProtect a b n) h = tt
+entry-reach g v t (Reset a) h = tt
+entry-reach g v t (Raw a n) h = tt
+entry-reach g v t (Swap b n) h = tt
+entry-reach g v t (Retire n x) h = let q = h .0 in (omega arith, omega arith)
+entry-reach g v t Eager h = tt
+entry-reach g v t Cleanup h = tt
+entry-reach g v t Shutdown h = tt
+
+entry-fits : (g : Settings) (o : Operation) → Fits (begins g o .cell) (begins g o .put)
+unfolding begins
+entry-fits g Acquire e = omega arith
+entry-fits g (Release a) e = omega arith
+entry-fits g (Protect a b) e = omega arith
+entry-fits g (Try a b n) e = omega arith
+entry-fits g (TryProtect a b n) e = omega arith
+entry-fits g (Reset a) e = omega arith
+entry-fits g (Raw a n) e = omega arith
+entry-fits g (Swap b n) e = omega arith
+entry-fits g (Retire n x) e = omega arith
+entry-fits g Eager e = omega arith
+entry-fits g Cleanup e = omega arith
+entry-fits g Shutdown e = omega arith
+
+entry-eight : (g : Settings) (o : Operation) → Eight (begins g o .row)
+unfolding begins
+entry-eight g Acquire = refl
+entry-eight g (Release a) = refl
+entry-eight g (Protect a b) = refl
+entry-eight g (Try a b n) = refl
+entry-eight g (TryProtect a b n) = refl
+entry-eight g (Reset a) = refl
+entry-eight g (Raw a n) = refl
+entry-eight g (Swap b n) = refl
+entry-eight g (Retire n x) = refl
+entry-eight g Eager = refl
+entry-eight g Cleanup = refl
+entry-eight g Shutdown = refl
+
+module _ (g : Settings) (s : State) (z : Sized s) (t : ℕ) (ht : t < threads) (o : Operation) where
+  abbrev n : ℕ
+  n = refusal (s .cells .records) (s .cells .sources) (s .cells .nodes) (s .rows32) t o
+
+  abbrev mark : ℕ
+  mark = getD (s .cells .heads) 2 0
+
+  abbrev place : ℕ
+  place = getD (s .rows32) (t * row32) 0
+
+  unrefused : refuseBy mark place n ≡ 0 → (mark ≡ 0) × (place ≡ 0) × (n ≡ 0)
+  unrefused h =
+      let a = fails (eqb mark 1) 18 _ (omega arith) h in
+      let b = fails (eqb mark 2) 18 _ (omega arith) (a .1) in
+      let c = holds (eqb place (code Pc.Idle)) 20 _ (omega arith) (b .1) in
+      let d = zero-of (eqb n 0) refl (c .1) in
+      let x = eqb-false mark 1 (a .0) in
+      let y = eqb-false mark 2 (b .0) in
+      let w = ltb-false 2 mark (d .1) in
+      (omega arith, eqb-true place 0 (c .0), d .0)
+    where
+      zero-of : (b : Bool) → eqb n 0 ≡ b → pick b (pick (ltb 2 mark) 29 0) n ≡ 0 → (n ≡ 0) × (ltb 2 mark ≡ false)
+      zero-of true e q = (eqb-true n 0 e, fails (ltb 2 mark) 29 0 (omega arith) q .0)
+      zero-of false e q = absurd (eqb-false n 0 e q)
+
+  place-is : place ≡ 0 → rowIn (viewOf s) t .place ≡ code Pc.Idle
+  unfolding rowAt
+  place-is e = ap (λ (r : Row). r .place) (row-view s t ht) ∙ ap (λ (k : ℕ). getD (s .rows32) k 0) (let q : t * row32 + 0 ≡ t * row32 = omega arith in q) ∙ e
+
+  mark-is : mark ≡ 0 → viewOf s .heads .mark ≡ 0
+  unfolding viewOf
+  mark-is e = e
+
+  in-begin : Begin g s t o (startIn g s t o)
+  unfolding startIn refuseOf
+  in-begin =
+      pick-case (Begin g s t o) (eqb (refuseBy mark place n) 0) _ _
+      (λ q. pick-case (Begin g s t o) (ofNull (begins g o)) _ _ (λ _. nothing refl) (λ _. enter (unrefused (eqb-true _ 0 q))))
+      (λ q. stays (refuseBy mark place n) (least (refuse-high mark place n (refusal-high s t o)) (eqb-false _ 0 q)) refl)
+    where
+      enter : (mark ≡ 0) × (place ≡ 0) × (n ≡ 0) → Begin g s t o (out (answer 1 0) (entered s t (begins g o)))
+      enter k =
+          let a = admitted s z t o (k .2) in
+          begun ht (mark-is (k .0)) (place-is (k .1)) a refl
+          (view-entered s z t ht (begins g o) (entry-reach g (viewOf s) t o a) (entry-fits g o) (entry-eight g o))
+          (sized-entered s z t ht (begins g o) (entry-reach g (viewOf s) t o a) (entry-fits g o) (entry-eight g o))
+
+-- every start
+pub start-begin : (g : Settings) (s : State) (t : ℕ) (o : Operation) → Begin g s t o (startOf g s t o)
+unfolding startOf
+start-begin g s t o =
+    pick-case (Begin g s t o) (sizes s) _ _ (λ q. pick-case (Begin g s t o) (ltb t threads) _ _ (λ h. in-begin g s (sized-of s q) t (ltb-true t threads h) o) (λ _. stays 17 (omega arith) refl)) (λ _. stays 16 (omega arith) refl)

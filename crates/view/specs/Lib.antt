@@ -1,0 +1,10 @@
+pub mod Field
+pub mod View
+pub mod Written
+pub mod Given
+pub mod Ranges
+pub mod Calm
+pub mod Turn
+pub mod Begin
+pub mod Long
+pub mod Rest

@@ -1,0 +1,259 @@
+-- A step over the tables as a step over the view: it is refused, it ends with 25 or 26, or its place's effect is applied to what the view holds.
+use Prim.Native.Nat.{ℕ, zero, suc, _+_, _*_, _-_, _%_, _^_, _≤_, _<_}
+use mathlib.Core.Path.{_≡_, refl, sym, ap, _∙_, subst}
+use mathlib.Core.Logic.{_≢_, _⊎_, inl, inr}
+use mathlib.Core.Bool.{Bool, true, false, false≢true}
+use mathlib.Core.List.{List, []}
+use lib.ListN.{length, getD}
+use lib.Dec.{eqb, ltb, leb}
+use borrow.Author.Tests.{eqb-true, eqb-false, ltb-true, leb-false, ne-eqb, eq-eqb}
+use native.Mathlib.Omega.{arith}
+use Rattle.base.specs.Pick.{pick, both, is-both}
+use Rattle.rules.specs.Sizes.{records, threads, steps, row32, Settings}
+use Rattle.rules.specs.Words.{isGuarded}
+use Rattle.rules.specs.Pc
+use Rattle.rules.specs.Pc.{Pc, pcOf, code}
+use Rattle.rules.specs.Cells.{address, accessed, inRange, unread, noCell}
+use Rattle.rules.specs.Rows.{rowAt, rowFits, first, idle}
+use Rattle.rules.specs.Places.{accesses, does, ends, damaged, accessOf, followOf, effectOf}
+use Rattle.rules.specs.Step.{Shared, State, Out, out, answer, refused, sizes, fetched, seen, untakenFor, untakenFrom, guardedAt, guardsOf, readBy, judge, judged, lookBy, lookOf, given, takeBy, takeOf, stepIn, stepOf}
+use Rattle.rules.specs.declared.Cell.{Cell}
+use Rattle.rules.specs.declared.Row.{Row}
+use Rattle.rules.specs.declared.Seen.{Seen}
+use Rattle.rules.specs.declared.Effect.{Effect}
+use Rattle.rules.specs.declared.Answer.{Answer}
+use Rattle.rules.specs.declared.Named.{Named}
+use Rattle.rules.specs.declared.Named.the-variants as cell
+use Rattle.rules.specs.declared.Access.{Access}
+use Rattle.rules.specs.declared.Access.the-variants as by
+use Rattle.lists.specs.Tab.{tab, tab-get}
+use Rattle.view.specs.Field.{IsId, field, field-get}
+use Rattle.view.specs.View.{View, view, viewOf, rowsIn, guardsIn, named, InTable, get, applies}
+use Rattle.view.specs.Written.{narrow, fetched-view}
+use Rattle.view.specs.Given.{Sized, Sound, sized-of, view-given, sized-given, guards-get}
+use Rattle.view.specs.Ranges.{Reads, limit, limit-narrow, reached, is-cell, access-reached, read-limit, in-limit, Small, small-of, code-of, not-first}
+use Rattle.view.specs.Calm.{Eight, Calm, calm, Ended, Plain, numbered, pick-all, pick-case}
+
+abbrev pub rowIn : View → ℕ → Row
+rowIn v t = getD (v .rows) t idle
+
+pub row-view : (s : State) (t : ℕ) → t < threads → rowIn (viewOf s) t ≡ rowAt (s .rows32) (s .rows64) t
+unfolding viewOf
+row-view s t ht = tab-get threads (λ u. rowAt (s .rows32) (s .rows64) u) t idle ht
+
+-- the cell that a step reads beside its own
+abbrev pub beside : Pc → Row → ℕ → Named
+beside p r u =
+    pick (eqb (code p) (code Pc.H2)) (cell.RecordNext (r .rec))
+    (pick (eqb (code p) (code Pc.Swap)) (pick (eqb (r .node) 0) cell.Nothing (cell.NodeState (r .node)))
+    (pick (eqb (code p) (code Pc.N1)) (pick (eqb u 0) cell.Nothing (cell.Holder u)) cell.Nothing))
+
+-- a store's cell is where the cell is
+unread-fetched : (s : Shared) (c : Cell) → fetched s (unread c) ≡ fetched s c
+unfolding fetched
+unread-fetched s c = go (eqb (c .class) noCell)
+  where
+    go : (b : Bool) → fetched s (pick b c (record { table = c .table; at = c .at; class = 0 })) ≡ fetched s c
+    go true = refl
+    go false = refl
+
+access-fetched : (s : Shared) (a : Access) → fetched s (accessed a) ≡ fetched s (address (named a))
+access-fetched s (by.Load c) = refl
+access-fetched s (by.Store c) = unread-fetched s (address c)
+access-fetched s (by.HazardStore c) = unread-fetched s (address c)
+access-fetched s (by.Update c) = refl
+access-fetched s (by.Private c) = refl
+
+-- what N1's search finds is a row that no thread took
+found-untaken : (l : List ℕ) (i n : ℕ) → untakenFrom l i n ≢ 0 → (i < untakenFrom l i n) × (untakenFrom l i n ≤ i + n) × ((getD l ((untakenFrom l i n - 1) * 4 + 3) 0 ≡ 0) ⊎ (threads + 1 < getD l ((untakenFrom l i n - 1) * 4 + 3) 0))
+unfolding untakenFrom
+found-untaken l i zero ne = absurd (ne refl)
+found-untaken l i (suc n) ne = go (eqb (getD l (i * 4 + 3) 0) 0) refl (ltb (threads + 1) (getD l (i * 4 + 3) 0)) refl ne (found-untaken l (i + 1) n)
+  where
+    At : ℕ → Type 0
+    At m = (i < m) × (m ≤ i + suc n) × ((getD l ((m - 1) * 4 + 3) 0 ≡ 0) ⊎ (threads + 1 < getD l ((m - 1) * 4 + 3) 0))
+
+    here : (getD l (i * 4 + 3) 0 ≡ 0) ⊎ (threads + 1 < getD l (i * 4 + 3) 0) → At (i + 1)
+    here h = (omega arith, omega arith, subst (λ (j : ℕ). (getD l (j * 4 + 3) 0 ≡ 0) ⊎ (threads + 1 < getD l (j * 4 + 3) 0)) (let q : i ≡ i + 1 - 1 = omega arith in q) h)
+
+    go : (a : Bool) → eqb (getD l (i * 4 + 3) 0) 0 ≡ a → (b : Bool) → ltb (threads + 1) (getD l (i * 4 + 3) 0) ≡ b → pick a (i + 1) (pick b (i + 1) (untakenFrom l (i + 1) n)) ≢ 0
+        → (untakenFrom l (i + 1) n ≢ 0 → (i + 1 < untakenFrom l (i + 1) n) × (untakenFrom l (i + 1) n ≤ i + 1 + n) × ((getD l ((untakenFrom l (i + 1) n - 1) * 4 + 3) 0 ≡ 0) ⊎ (threads + 1 < getD l ((untakenFrom l (i + 1) n - 1) * 4 + 3) 0)))
+        → At (pick a (i + 1) (pick b (i + 1) (untakenFrom l (i + 1) n)))
+    go true ea b eb q f = here (inl (eqb-true _ 0 ea))
+    go false ea true eb q f = here (inr (ltb-true _ _ eb))
+    go false ea false eb q f = let k = f q in (omega arith, omega arith, k .2)
+
+lowest-view : (l : List ℕ) (place : ℕ) → untakenFor l place ≢ 0 → (getD (field 4 3 records l) (untakenFor l place) 0 ≡ 0) ⊎ (threads + 1 < getD (field 4 3 records l) (untakenFor l place) 0)
+unfolding untakenFor
+lowest-view l place = pick-case (λ (u : ℕ). u ≢ 0 → (getD (field 4 3 records l) u 0 ≡ 0) ⊎ (threads + 1 < getD (field 4 3 records l) u 0)) (eqb place (code Pc.N1)) _ _
+    (λ _ ne. let k = found-untaken l 0 records ne in rw (field-get 4 records l 3 (untakenFrom l 0 records) (k .0, k .1)) (k .2)) (λ _ ne. absurd (ne refl))
+
+-- what a step that is taken at place p, with row r, knows of what it saw
+pub record Look (g : Settings) (k : View) (t : ℕ) (p : Pc) (r : Row) (i : Seen) : Type 0 where
+  pub place : r .place ≡ code p
+  pub small : Small g r
+  pub reach : InTable (named (accesses p r))
+  pub x : i .x ≡ get (named (accesses p r)) k
+  pub v : i .v ≡ i .x % 2 ^ 32
+  pub fits : Reads (accesses p r) → i .x ≤ limit (named (accesses p r))
+  pub y : i .y ≡ get (beside p r (i .untaken)) k
+  pub w : i .w ≡ i .y % 2 ^ 32
+  pub beyond : InTable (beside p r (i .untaken))
+  pub fit : i .y ≤ limit (beside p r (i .untaken))
+  pub lowest : i .untaken ≢ 0 → (getD (k .records .holder) (i .untaken) 0 ≡ 0) ⊎ (threads + 1 < getD (k .records .holder) (i .untaken) 0)
+  pub guarded : i .guarded ≡ isGuarded (getD (k .guards) t []) (first r)
+  pub thread : i .thread ≡ t
+  pub also : InTable (does g p r i .also)
+  pub fine : does g p r i .number ≢ 29
+  pub early : k .counters .ticks < steps
+
+-- what is read of a narrow cell is what it holds, and within its limit
+pub sees : {g : Settings} {v : View} {t : ℕ} {p : Pc} {r : Row} {i : Seen} → Look g v t p r i → Reads (accesses p r) → narrow (named (accesses p r)) ≡ true → (i .v ≡ get (named (accesses p r)) v) × (i .v ≤ limit (named (accesses p r)))
+sees {p = p} {r = r} l q n =
+    let a = l .fits q in
+    let b = limit-narrow (named (accesses p r)) n in
+    let c = l .v in
+    let d = l .x in
+    (omega arith, omega arith)
+
+pub data Turn (g : Settings) (s : State) (t : ℕ) (o : Out) : Type 0 where
+  stays : (n : ℕ) → 16 ≤ n → o ≡ refused n s → Turn g s t o
+  stops : (n : ℕ) → (n ≡ 25) ⊎ (n ≡ 26) → (pcOf (rowIn (viewOf s) t .place) ≡ Pc.N1) ⊎ (pcOf (rowIn (viewOf s) t .place) ≡ Pc.Swap) → viewOf s .counters .ticks < steps → t < threads → o .answer ≡ answer n 0 → viewOf (o .state) ≡ applies t cell.Nothing (ends n) (viewOf s) → Sized (o .state) → Turn g s t o
+  takes : (p : Pc) (i : Seen) → t < threads → Look g (viewOf s) t p (rowIn (viewOf s) t) i → o .answer ≡ answer (does g p (rowIn (viewOf s) t) i .number) (does g p (rowIn (viewOf s) t) i .value)
+      → viewOf (o .state) ≡ applies t (named (accesses p (rowIn (viewOf s) t))) (does g p (rowIn (viewOf s) t) i) (viewOf s) → Sized (o .state) → Turn g s t o
+
+module _ (g : Settings) (s : State) (z : Sized s) (t : ℕ) (ht : t < threads) (flag : Bool) (clock : ℕ) (hk : getD (s .cells .counters) 4 0 < steps) where
+  abbrev R : Row
+  R = rowAt (s .rows32) (s .rows64) t
+
+  abbrev p : Pc
+  p = pcOf (R .place)
+
+  abbrev u : ℕ
+  u = untakenFor (s .cells .records) (R .place)
+
+  abbrev c : Cell
+  c = accessed (accesses p R)
+
+  abbrev l : Cell
+  l = address (followOf R u)
+
+  abbrev i : Seen
+  i = readBy (s .cells) (s .guards) t flag clock R c l u
+
+  abbrev e : Effect
+  e = does g p R i
+
+  abbrev fits : Bool
+  fits = both (rowFits g (s .rows32) t) (both (inRange (c .class) (i .x)) (both (inRange (l .class) (i .y)) (inRange (address (e .also) .class) 0)))
+
+  -- the effect is in the tables' reach
+  eight : Eight R
+  unfolding rowAt
+  eight = refl
+
+  follow-is : R .place ≡ code p → followOf R u ≡ beside p R u
+  unfolding followOf
+  follow-is q = ap f q
+    where
+      f : ℕ → Named
+      f n =
+          pick (eqb n (code Pc.H2)) (cell.RecordNext (R .rec))
+          (pick (eqb n (code Pc.Swap)) (pick (eqb (R .node) 0) cell.Nothing (cell.NodeState (R .node)))
+          (pick (eqb n (code Pc.N1)) (pick (eqb u 0) cell.Nothing (cell.Holder u)) cell.Nothing))
+
+  look : fits ≡ true → e .number ≢ 29 → Look g (viewOf s) t p R i
+  unfolding viewOf readBy guardedAt
+  look h nine =
+      let a = is-both (rowFits g (s .rows32) t) _ h in
+      let b = is-both (inRange (c .class) (i .x)) _ (a .1) in
+      let d = is-both (inRange (l .class) (i .y)) _ (b .1) in
+      let m : Small g R = small-of g (s .rows32) (s .rows64) t (a .0) in
+      let k : R .place ≡ code p = sym (code-of (R .place) (m .place)) in
+      let w : followOf R u ≡ beside p R u = follow-is k in
+      let reach = access-reached (accesses p R) (i .x) (b .0) in
+      let y : inRange (address (beside p R u) .class) (i .y) ≡ true = subst (λ (n : Named). inRange (address n .class) (i .y) ≡ true) w (d .0) in
+      let far = reached (beside p R u) (is-cell _ (i .y) y) in
+      record {
+        place = k;
+        small = m;
+        reach = reach;
+        x = access-fetched (s .cells) (accesses p R) ∙ fetched-view (s .cells) _ _ (named (accesses p R)) reach;
+        v = refl;
+        fits = λ q. read-limit (accesses p R) (i .x) q (b .0);
+        y = ap (λ (n : Named). fetched (s .cells) (address n)) w ∙ fetched-view (s .cells) _ _ (beside p R u) far;
+        w = refl;
+        beyond = far;
+        fit = in-limit (beside p R u) (i .y) y;
+        lowest = lowest-view (s .cells .records) (R .place);
+        guarded = ap (λ (q : List ℕ). isGuarded q (first R)) (sym (guards-get (s .guards) t ht (z .guards)));
+        thread = refl;
+        also = reached (e .also) (is-cell _ 0 (d .1));
+        fine = nine;
+        early = hk;
+      }
+
+  -- with the row as the view has it
+  abbrev Took : Row → Effect → Out → Type 0
+  Took r d o = Look g (viewOf s) t p r i → o .answer ≡ answer (d .number) (d .value) → viewOf (o .state) ≡ applies t (named (accesses p r)) d (viewOf s) → Sized (o .state) → Turn g s t o
+
+  taken : (o : Out) → Took R e o
+  taken o = subst (λ (r : Row). Took r (does g p r i) o) (row-view s t ht) (λ k a q w. takes p i ht k a q w)
+
+  sound : Calm (named (accesses p R)) e → (e .writes ≡ true → InTable (named (accesses p R))) → InTable (e .also) → Sound (accesses p R) e
+  sound k a b = record { reach = a; put = λ _. k .put; also = b; to = k .to; stolen = k .stolen }
+
+  where-is : (p ≡ Pc.N1) ⊎ (p ≡ Pc.Swap) → (pcOf (rowIn (viewOf s) t .place) ≡ Pc.N1) ⊎ (pcOf (rowIn (viewOf s) t .place) ≡ Pc.Swap)
+  where-is = subst (λ (x : Row). (pcOf (x .place) ≡ Pc.N1) ⊎ (pcOf (x .place) ≡ Pc.Swap) → (pcOf (rowIn (viewOf s) t .place) ≡ Pc.N1) ⊎ (pcOf (rowIn (viewOf s) t .place) ≡ Pc.Swap)) (row-view s t ht) (λ w. w)
+
+  soon : viewOf s .counters .ticks < steps
+  unfolding viewOf
+  soon = hk
+
+  stopped : (b : Bool) (n : ℕ) → (p ≡ Pc.N1) ⊎ (p ≡ Pc.Swap) → (n ≡ 25) ⊎ (n ≡ 26) → Turn g s t (takeBy s t c (judge R b (ends n)))
+  stopped b n w (inl q) = subst (λ (m : ℕ). Turn g s t (takeBy s t c (judge R b (ends m)))) (sym q) (stops 25 (inl refl) (where-is w) soon ht refl (view-given s z t ht (accesses p R) (ends 25) quiet) (sized-given s z t ht (accesses p R) (ends 25) quiet))
+    where
+      quiet : Sound (accesses p R) (ends 25)
+      quiet = record { reach = λ x. absurd (false≢true x); put = λ x. absurd (false≢true x); also = tt; to = λ _. omega arith; stolen = refl }
+  stopped b n w (inr q) = subst (λ (m : ℕ). Turn g s t (takeBy s t c (judge R b (ends m)))) (sym q) (stops 26 (inr refl) (where-is w) soon ht refl (view-given s z t ht (accesses p R) (ends 26) quiet) (sized-given s z t ht (accesses p R) (ends 26) quiet))
+    where
+      quiet : Sound (accesses p R) (ends 26)
+      quiet = record { reach = λ x. absurd (false≢true x); put = λ x. absurd (false≢true x); also = tt; to = λ _. omega arith; stolen = refl }
+
+  -- neither 25 nor 26: what is judged is judged by its fitting
+  judge-plain : (b : Bool) (d : Effect) → Plain d → judge R b d ≡ pick b d (damaged R)
+  judge-plain b d k = rw (ne-eqb (d .number) 25 (k .0), ne-eqb (d .number) 26 (k .1))
+
+  goes : fits ≡ true → e .number ≢ 29 → Turn g s t (out (answer (e .number) (e .value)) (given s t c e))
+  goes h nine =
+      let k = look h nine in
+      let w = sound (calm g R i (k .small) eight (rw (k .v) (omega arith)) (rw (k .thread) ht) p) (λ _. k .reach) (k .also) in
+      taken (out (answer (e .number) (e .value)) (given s t c e)) k refl (view-given s z t ht (accesses p R) e w) (sized-given s z t ht (accesses p R) e w)
+
+  plainly : (b : Bool) → fits ≡ b → Turn g s t (takeBy s t c (pick b e (damaged R)))
+  plainly true h = pick-case (Turn g s t) (eqb (e .number) 29) _ _ (λ q. stays 29 (omega arith) refl) (λ q. goes h (eqb-false (e .number) 29 q))
+  plainly false h = stays 29 (omega arith) refl
+
+  judging : (b : Bool) → fits ≡ b → Turn g s t (takeBy s t c (judge R b e))
+  unfolding Ended
+  judging b h = go (numbered g p R i)
+    where
+      go : Ended p e ⊎ Plain e → Turn g s t (takeBy s t c (judge R b e))
+      go (inl q) = subst (λ (d : Effect). Turn g s t (takeBy s t c (judge R b d))) (sym (q .1)) (stopped b (q .0) (q .3) (q .2))
+      go (inr k) = subst (λ (d : Effect). Turn g s t (takeBy s t c d)) (sym (judge-plain b e k)) (plainly b h)
+
+  takes-turn : Turn g s t (takeOf g s t flag clock)
+  unfolding takeOf lookOf lookBy judged accessOf effectOf
+  takes-turn = judging fits refl
+
+in-turn : (g : Settings) (s : State) → Sized s → (t : ℕ) → t < threads → (flag : Bool) (clock : ℕ) → Turn g s t (stepIn g s t flag clock)
+unfolding stepIn
+in-turn g s z t ht flag clock =
+    pick-case (Turn g s t) (leb steps (getD (s .cells .counters) 4 0)) _ _ (λ _. stays 19 (omega arith) refl)
+    (λ e. pick-all (Turn g s t) (eqb (getD (s .rows32) (t * row32) 0) (code Pc.Idle)) _ _ (stays 21 (omega arith) refl) (takes-turn g s z t ht flag clock (leb-false _ _ e)))
+
+-- every step
+pub step-turn : (g : Settings) (s : State) (t : ℕ) (flag : Bool) (clock : ℕ) → Turn g s t (stepOf g s t flag clock)
+unfolding stepOf
+step-turn g s t flag clock =
+    pick-case (Turn g s t) (sizes s) _ _ (λ q. pick-case (Turn g s t) (ltb t threads) _ _ (λ h. in-turn g s (sized-of s q) t (ltb-true t threads h) flag clock) (λ _. stays 17 (omega arith) refl)) (λ _. stays 16 (omega arith) refl)
