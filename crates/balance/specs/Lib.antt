@@ -1,0 +1,4 @@
+pub mod Balance
+pub mod CountStep
+pub mod Tally
+pub mod Total

@@ -1,0 +1,10 @@
+pub mod Runs
+pub mod Events
+pub mod Fresh
+pub mod Told
+pub mod Invariant
+pub mod Safety
+pub mod OnePlace
+pub mod Once
+pub mod Bound
+pub mod Whole
