@@ -1,0 +1,41 @@
+#!/usr/bin/env python3
+# Writes docs/PROMISES.md's table of public functions anew from the sources: each one's promise as its contract states it.
+# S and S′ stand for the eight tables at entry and exit, C and C′ for the five shared ones, a primed name for a slice at exit.
+import glob
+import os
+import re
+
+os.chdir(os.path.join(os.path.dirname(os.path.abspath(__file__)), ".."))
+order=[l.split(':')[0] for l in open('crates.txt') if ':' in l and not l.startswith('#')]
+rows=[]
+def short(e):
+    e=re.sub(r'\(state \(shared [^≡]*?\.exit\)\)\) \(now \(rows32 \.exit\)\) \(now \(rows64 \.exit\)\) \(now \(guards \.exit\)\)\)',"S′",e)
+    e=re.sub(r'\(state \(shared [^≡]*?\.entry\)\)\) \(now \(rows32 \.entry\)\) \(now \(rows64 \.entry\)\) \(now \(guards \.entry\)\)\)',"S",e)
+    e=re.sub(r'\(?shared \(now \(heads \.exit\)\).*?\(now \(nodes \.exit\)\)\)?',"C′",e)
+    e=re.sub(r'\(?shared \(now \(heads \.entry\)\).*?\(now \(nodes \.entry\)\)\)?',"C",e)
+    e=re.sub(r'now \((\w+) \.entry\)',r'\1',e); e=re.sub(r'now \((\w+) \.exit\)',r'\1′',e)
+    e=re.sub(r'\((\w+′?)\)',r'\1',e)
+    e=e.replace('Rattle·','')
+    return e.strip()
+for c in order:
+    lib=f'crates/{c}/src/lib.rt'
+    if not os.path.exists(lib): continue
+    libs=open(lib).read()
+    for f in sorted(glob.glob(f'crates/{c}/src/*.rt')):
+        m=os.path.basename(f)[:-3]
+        if m=='main': continue
+        if m!='lib' and not re.search(r'^pub mod '+m+';',libs,flags=re.M): continue
+        s=open(f).read()
+        for mm in re.finditer(r'^pub fn (\w+)\((.*?)\)(?: -> ([^\n{]*?))?\s*\n((?:    (?:requires|ensures)[^\n]*\n)*)\{',s,flags=re.M|re.S):
+            name,params,ret,cl=mm.groups()
+            req='requires' in cl
+            ens=re.findall(r'ensures(?: \w+)? \{ λ (\S+) ?\. ⌜ (.*?) ⌝ \}',cl)
+            if not ens: ens=re.findall(r'ensures(?: \w+)? \{ (?:λ (\S+)\. )?⌜ (.*?) ⌝ \}',cl)
+            p=' and '.join(short(e[1]) for e in ens)
+            path=f"{c}::{'' if m=='lib' else m+'::'}{name}"
+            rows.append((path,f"crates/{c}/src/{m}.rt",p,'no' if req else 'yes'))
+out='| function | promise | one |\n|---|---|---|\n'+'\n'.join(f"| `{a}` | {('`'+p+'`') if p else '-'} | {o} |" for a,f,p,o in rows)+'\n'
+page = open('docs/PROMISES.md').read()
+begin, end = page.index('| function |'), page.index('\n\n', page.index('| function |')) + 1
+open('docs/PROMISES.md', 'w').write(page[:begin] + out + page[end:])
+print(len(rows), 'public functions,', sum(r[3] == 'no' for r in rows), 'with a requires')
