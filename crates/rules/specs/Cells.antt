@@ -100,8 +100,4 @@ abbrev pub unread : Cell → Cell
 unread c = pick (eqb (c .class) noCell) c (cellAt (c .table) (c .at) anything)
 
 abbrev pub accessed : Access → Cell
-accessed (by.Load c) = address c
-accessed (by.Store c) = unread (address c)
-accessed (by.HazardStore c) = unread (address c)
-accessed (by.Update c) = address c
-accessed (by.Private c) = address c
+accessed = elim [ by.Load c ↦ address c | by.Store c ↦ unread (address c) | by.HazardStore c ↦ unread (address c) | by.Update c ↦ address c | by.Private c ↦ address c ]

@@ -17,60 +17,9 @@ use Rattle.rules.specs.declared.Named.the-variants as cell
 use Rattle.rules.specs.declared.Access.{Access}
 use Rattle.rules.specs.declared.Access.the-variants as by
 
--- ---- the access of each place
-abbrev pub accesses : Pc → Row → Access
-accesses Pc.Idle r = by.Load cell.Nothing
-accesses Pc.A1 r = by.Load cell.HeadAvailable
-accesses Pc.A2 r = by.Update cell.HeadAvailable
-accesses Pc.A3 r = by.Load (cell.AvailableNext (r .rec))
-accesses Pc.A4 r = by.Store cell.HeadAvailable
-accesses Pc.A5 r = by.Store (cell.AvailableNext (r .rec))
-accesses Pc.A6 r = by.Load (cell.AvailableNext (r .rec))
-accesses Pc.N1 r = by.Load cell.RecordHead
-accesses Pc.N2 r = by.Update cell.RecordHead
-accesses Pc.N3 r = by.Update cell.RecordCount
-accesses Pc.D1 r = by.HazardStore (cell.Hazard (r .rec))
-accesses Pc.D2 r = by.Load (cell.AvailableNext (r .rec))
-accesses Pc.P1 r = by.Load cell.HeadAvailable
-accesses Pc.P2 r = by.Store (cell.AvailableNext (r .rec))
-accesses Pc.P3 r = by.Update cell.HeadAvailable
-accesses Pc.V0 r = by.Load (cell.Source (r .source))
-accesses Pc.V1 r = by.HazardStore (cell.Hazard (r .rec))
-accesses Pc.V2 r = by.Load (cell.Source (r .source))
-accesses Pc.V3 r = by.HazardStore (cell.Hazard (r .rec))
-accesses Pc.Reset r = by.HazardStore (cell.Hazard (r .rec))
-accesses Pc.Raw r = by.HazardStore (cell.Hazard (r .rec))
-accesses Pc.Swap r = by.Update (cell.Source (r .source))
-accesses Pc.T1 r = by.Load (cell.ShardHead (r .shard))
-accesses Pc.T2 r = by.Update (cell.ShardHead (r .shard))
-accesses Pc.T3 r = by.Update cell.Count
-accesses Pc.K1 r = by.Load cell.Count
-accesses Pc.K2 r = by.Load cell.RecordCount
-accesses Pc.K3 r = by.Update cell.Count
-accesses Pc.K4 r = by.Store cell.DueTime
-accesses Pc.E1 r = by.Load cell.DueTime
-accesses Pc.E2 r = by.Update cell.DueTime
-accesses Pc.E3 r = by.Update cell.Count
-accesses Pc.B1 r = by.Update cell.BulkReclaims
-accesses Pc.Steal r = by.Update (cell.ShardHead (r .shard))
-accesses Pc.H1 r = by.Load cell.RecordHead
-accesses Pc.H2 r = by.Load (cell.Hazard (r .rec))
-accesses Pc.Examine r = by.Private (cell.NodeNext (first r))
-accesses Pc.Reclaim r = by.Private (cell.NodeNext (r .reclaimable))
-accesses Pc.Empty r = by.Load (cell.ShardHead (r .shard))
-accesses Pc.Push1 r = by.Load (cell.ShardHead 0)
-accesses Pc.Push2 r = by.Update (cell.ShardHead 0)
-accesses Pc.C1 r = by.Update cell.Count
-accesses Pc.C3 r = by.Update cell.BulkReclaims
-accesses Pc.Wait r = by.Load cell.BulkReclaims
-accesses Pc.S1 r = by.Update (cell.ShardHead (r .shard))
-accesses Pc.S2 r = by.Private (cell.NodeNext (r .reclaimable))
-accesses Pc.S3 r = by.Store cell.Shutdown
-accesses Pc.Unknown r = by.Load cell.Nothing
-
--- the cell that is read beside it: H2 the record's `next`, a swap the new node's state, N1 the row that it would take
-abbrev pub follows : Row → ℕ → Named
-follows r untaken =
+-- ---- the cell that is read beside it: H2 the record's `next`, a swap the new node's state, N1 the row that it would take
+unfoldable pub followOf : Row → ℕ → Named
+followOf r untaken =
     pick (eqb (r .place) (Pc.code Pc.H2)) (cell.RecordNext (r .rec))
     (pick (eqb (r .place) (Pc.code Pc.Swap)) (pick (eqb (r .node) 0) cell.Nothing (cell.NodeState (r .node)))
     (pick (eqb (r .place) (Pc.code Pc.N1)) (pick (eqb untaken 0) cell.Nothing (cell.Holder untaken)) cell.Nothing))
@@ -165,94 +114,104 @@ reclaimed g rest r = pick (eqb rest 0) (examineFrom g (shardIn r + 1) r) r
 unfoldable pub shutNext : Settings → Row → Row
 shutNext g r = pick (eqb (shardIn r + 1) (g .shards)) (goTo Pc.S3 r) (goTo Pc.S1 (inShard (shardIn r + 1) r))
 
--- ---- what each place's step does with what it saw
-abbrev pub does : Settings → Pc → Row → Seen → Effect
-does g Pc.Idle r i = damaged r
+-- ---- the rule of each place: the access that its step makes, and what the step does with what it saw
+pub record Rule : Type 0 where
+  pub access : Access
+  pub effect : Settings → Seen → Effect
+
+abbrev pub at : Access → (Settings → Seen → Effect) → Rule
+at a e = record { access = a; effect = e }
+
+abbrev pub rule : Pc → Row → Rule
+rule Pc.Idle r = at (by.Load cell.Nothing) λ g i. damaged r
 -- acquire
-does g Pc.A1 r i =
+rule Pc.A1 r = at (by.Load cell.HeadAvailable) λ g i.
     pick (locked (i .v)) (becomes r)
     (pick (eqb (i .v) 0) (becomes (goTo Pc.N1 r)) (becomes (goTo Pc.A2 (withRec (i .v / 2) r))))
-does g Pc.A2 r i = weak (i .v) (r .rec * 2) (i .flag) (stores (withLock (r .rec * 2)) (becomes (goTo Pc.A3 r))) (becomes (goTo Pc.A1 r))
-does g Pc.A3 r i = becomes (goTo Pc.A4 (withNext (i .v) r))
-does g Pc.A4 r i = stores (r .next * 2) (becomes (goTo Pc.A5 r))
-does g Pc.A5 r i = stores 0 (becomes (goTo Pc.A6 r))
-does g Pc.A6 r i = also (cell.Holder (r .rec)) (i .thread + 2) (done (r .rec))
-does g Pc.N1 r i =
+rule Pc.A2 r = at (by.Update cell.HeadAvailable) λ g i. weak (i .v) (r .rec * 2) (i .flag) (stores (withLock (r .rec * 2)) (becomes (goTo Pc.A3 r))) (becomes (goTo Pc.A1 r))
+rule Pc.A3 r = at (by.Load (cell.AvailableNext (r .rec))) λ g i. becomes (goTo Pc.A4 (withNext (i .v) r))
+rule Pc.A4 r = at (by.Store cell.HeadAvailable) λ g i. stores (r .next * 2) (becomes (goTo Pc.A5 r))
+rule Pc.A5 r = at (by.Store (cell.AvailableNext (r .rec))) λ g i. stores 0 (becomes (goTo Pc.A6 r))
+rule Pc.A6 r = at (by.Load (cell.AvailableNext (r .rec))) λ g i. also (cell.Holder (r .rec)) (i .thread + 2) (done (r .rec))
+rule Pc.N1 r = at (by.Load cell.RecordHead) λ g i.
     pick (eqb (i .untaken) 0) (ends 26)
     (also (cell.Holder (i .untaken)) 1 (becomes (goTo Pc.N2 (withRec (i .untaken) (withNext (i .v) r)))))
-does g Pc.N2 r i =
+rule Pc.N2 r = at (by.Update cell.RecordHead) λ g i.
     weak (i .v) (r .next) (i .flag)
     (stores (r .rec) (also (cell.RecordNext (r .rec)) (r .next) (becomes (goTo Pc.N3 r))))
     (also (cell.RecordNext (r .rec)) (r .next) (becomes (withNext (i .v) r)))
-does g Pc.N3 r i = stores (plus (i .x) 1) (also (cell.Holder (r .rec)) (i .thread + 2) (done (r .rec)))
+rule Pc.N3 r = at (by.Update cell.RecordCount) λ g i. stores (plus (i .x) 1) (also (cell.Holder (r .rec)) (i .thread + 2) (done (r .rec)))
 -- release
-does g Pc.D1 r i = stores 0 (becomes (goTo Pc.D2 r))
-does g Pc.D2 r i = pick (eqb (i .v) 0) (becomes (goTo Pc.P1 r)) (damaged r)
-does g Pc.P1 r i = pick (locked (i .v)) (becomes r) (becomes (goTo Pc.P2 (withNext (i .v / 2) r)))
-does g Pc.P2 r i = stores (r .next) (becomes (goTo Pc.P3 r))
-does g Pc.P3 r i = weak (i .v) (r .next * 2) (i .flag) (stores (r .rec * 2) (done 0)) (becomes (goTo Pc.P1 r))
+rule Pc.D1 r = at (by.HazardStore (cell.Hazard (r .rec))) λ g i. stores 0 (becomes (goTo Pc.D2 r))
+rule Pc.D2 r = at (by.Load (cell.AvailableNext (r .rec))) λ g i. pick (eqb (i .v) 0) (becomes (goTo Pc.P1 r)) (damaged r)
+rule Pc.P1 r = at (by.Load cell.HeadAvailable) λ g i. pick (locked (i .v)) (becomes r) (becomes (goTo Pc.P2 (withNext (i .v / 2) r)))
+rule Pc.P2 r = at (by.Store (cell.AvailableNext (r .rec))) λ g i. stores (r .next) (becomes (goTo Pc.P3 r))
+rule Pc.P3 r = at (by.Update cell.HeadAvailable) λ g i. weak (i .v) (r .next * 2) (i .flag) (stores (r .rec * 2) (done 0)) (becomes (goTo Pc.P1 r))
 -- protect (operation 3) and the tries
-does g Pc.V0 r i = becomes (goTo Pc.V1 (withNode (i .v) r))
-does g Pc.V1 r i = stores (r .node) (becomes (goTo Pc.V2 r))
-does g Pc.V2 r i = pick (eqb (i .v) (r .node)) (done (i .v)) (becomes (goTo Pc.V3 (seeing (i .v) r)))
-does g Pc.V3 r i = pick (eqb (r .operation) 3) (stores 0 (becomes (goTo Pc.V1 (withNode (r .seen) r)))) (stores 0 (retry (r .seen)))
-does g Pc.Reset r i = stores 0 (done 0)
-does g Pc.Raw r i = stores (r .node) (done 0)
+rule Pc.V0 r = at (by.Load (cell.Source (r .source))) λ g i. becomes (goTo Pc.V1 (withNode (i .v) r))
+rule Pc.V1 r = at (by.HazardStore (cell.Hazard (r .rec))) λ g i. stores (r .node) (becomes (goTo Pc.V2 r))
+rule Pc.V2 r = at (by.Load (cell.Source (r .source))) λ g i. pick (eqb (i .v) (r .node)) (done (i .v)) (becomes (goTo Pc.V3 (seeing (i .v) r)))
+rule Pc.V3 r = at (by.HazardStore (cell.Hazard (r .rec))) λ g i. pick (eqb (r .operation) 3) (stores 0 (becomes (goTo Pc.V1 (withNode (r .seen) r)))) (stores 0 (retry (r .seen)))
+rule Pc.Reset r = at (by.HazardStore (cell.Hazard (r .rec))) λ g i. stores 0 (done 0)
+rule Pc.Raw r = at (by.HazardStore (cell.Hazard (r .rec))) λ g i. stores (r .node) (done 0)
 -- swap: w is the new node's state
-does g Pc.Swap r i =
+rule Pc.Swap r = at (by.Update (cell.Source (r .source))) λ g i.
     pick (eqb (i .w) 2) (ends 25)
     (pick (eqb (r .node) 0) (stores 0 (done (i .v)))
     (pick (eqb (i .w) 0) (stores (r .node) (also (cell.NodeState (r .node)) 1 (done (i .v)))) (stores (r .node) (done (i .v)))))
 -- retire
-does g Pc.T1 r i = becomes (goTo Pc.T2 (seeing (i .v) r))
-does g Pc.T2 r i =
+rule Pc.T1 r = at (by.Load (cell.ShardHead (r .shard))) λ g i. becomes (goTo Pc.T2 (seeing (i .v) r))
+rule Pc.T2 r = at (by.Update (cell.ShardHead (r .shard))) λ g i.
     weak (i .v) (r .seen) (i .flag)
     (stores (r .lone) (also (cell.NodeNext (r .lone)) (r .seen) (becomes (goTo Pc.T3 (withLone 0 r)))))
     (also (cell.NodeNext (r .lone)) (r .seen) (becomes (seeing (i .v) r)))
-does g Pc.T3 r i = stores (plus (i .x) 1) (becomes (goTo Pc.K1 r))
+rule Pc.T3 r = at (by.Update cell.Count) λ g i. stores (plus (i .x) 1) (becomes (goTo Pc.K1 r))
 -- Check
-does g Pc.K1 r i = becomes (goTo Pc.K2 (counting (i .x) r))
-does g Pc.K2 r i = pick (over g (r .count) (i .x)) (becomes (goTo Pc.K3 r)) (becomes (checked (taking 0 r)))
-does g Pc.K3 r i = weak (i .x) (r .count) (i .flag) (stores 0 (becomes (goTo Pc.K4 (taking (r .count) r)))) (becomes (goTo Pc.K2 (counting (i .x) r)))
-does g Pc.K4 r i = stores (dueTime (i .clock)) (becomes (checked r))
-does g Pc.E1 r i = pick (g .due (i .clock) (i .x)) (becomes (goTo Pc.E2 (dated (i .x) (i .clock) r))) (done 0)
-does g Pc.E2 r i = strong (i .x) (r .due) (stores (dueTime (r .clock)) (becomes (goTo Pc.E3 r))) (done 0)
-does g Pc.E3 r i = pick (eqb (i .x) 0) (stores 0 (done 0)) (stores 0 (becomes (goTo Pc.B1 (taking (i .x) r))))
+rule Pc.K1 r = at (by.Load cell.Count) λ g i. becomes (goTo Pc.K2 (counting (i .x) r))
+rule Pc.K2 r = at (by.Load cell.RecordCount) λ g i. pick (over g (r .count) (i .x)) (becomes (goTo Pc.K3 r)) (becomes (checked (taking 0 r)))
+rule Pc.K3 r = at (by.Update cell.Count) λ g i. weak (i .x) (r .count) (i .flag) (stores 0 (becomes (goTo Pc.K4 (taking (r .count) r)))) (becomes (goTo Pc.K2 (counting (i .x) r)))
+rule Pc.K4 r = at (by.Store cell.DueTime) λ g i. stores (dueTime (i .clock)) (becomes (checked r))
+rule Pc.E1 r = at (by.Load cell.DueTime) λ g i. pick (g .due (i .clock) (i .x)) (becomes (goTo Pc.E2 (dated (i .x) (i .clock) r))) (done 0)
+rule Pc.E2 r = at (by.Update cell.DueTime) λ g i. strong (i .x) (r .due) (stores (dueTime (r .clock)) (becomes (goTo Pc.E3 r))) (done 0)
+rule Pc.E3 r = at (by.Update cell.Count) λ g i. pick (eqb (i .x) 0) (stores 0 (done 0)) (stores 0 (becomes (goTo Pc.B1 (taking (i .x) r))))
 -- Reclaim
-does g Pc.B1 r i = stores (plus (i .x) 1) (becomes (newPass r))
-does g Pc.Steal r i =
+rule Pc.B1 r = at (by.Update cell.BulkReclaims) λ g i. stores (plus (i .x) 1) (becomes (newPass r))
+rule Pc.Steal r = at (by.Update (cell.ShardHead (r .shard))) λ g i.
     pick (eqb (shardIn r + 1) (g .shards))
     (pick (eqb (stolenFrom (stealing (i .v) r .stolen) 0 (g .shards)) (g .shards)) (stores 0 (becomes (passed (withDone 2 (stealing (i .v) r))))) (stores 0 (becomes (goTo Pc.H1 (stealing (i .v) r)))))
     (stores 0 (becomes (inShard (shardIn r + 1) (stealing (i .v) r))))
-does g Pc.H1 r i = pick (eqb (i .v) 0) (clearsGuards (examineFrom g 0 r)) (clearsGuards (goTo Pc.H2 (withRec (i .v) r)))
-does g Pc.H2 r i = pick (eqb (i .w) 0) (guarding (i .v) (examineFrom g 0 r)) (guarding (i .v) (withRec (i .w) r))
-does g Pc.Examine r i =
+rule Pc.H1 r = at (by.Load cell.RecordHead) λ g i. pick (eqb (i .v) 0) (clearsGuards (examineFrom g 0 r)) (clearsGuards (goTo Pc.H2 (withRec (i .v) r)))
+rule Pc.H2 r = at (by.Load (cell.Hazard (r .rec))) λ g i. pick (eqb (i .w) 0) (guarding (i .v) (examineFrom g 0 r)) (guarding (i .v) (withRec (i .w) r))
+rule Pc.Examine r = at (by.Private (cell.NodeNext (first r))) λ g i.
     pick (i .guarded) (stores (r .unreclaimed) (becomes (examined g (i .v) (keeping (first r) (pick (eqb (r .unreclaimed) 0) (first r) (r .tail)) (stealing (i .v) r)))))
     (stores (r .reclaimable) (becomes (examined g (i .v) (reclaiming (first r) (stealing (i .v) r)))))
-does g Pc.Reclaim r i = reclaims (r .reclaimable) (reclaimed g (i .v) (freeing (reclaiming (i .v) r)))
-does g Pc.Empty r i =
+rule Pc.Reclaim r = at (by.Private (cell.NodeNext (r .reclaimable))) λ g i. reclaims (r .reclaimable) (reclaimed g (i .v) (freeing (reclaiming (i .v) r)))
+rule Pc.Empty r = at (by.Load (cell.ShardHead (r .shard))) λ g i.
     pick (eqb (i .v) 0)
     (pick (eqb (shardIn r + 1) (g .shards)) (becomes (emptied (withDone 2 r))) (becomes (inShard (shardIn r + 1) r)))
     (becomes (emptied (withDone 1 r)))
-does g Pc.Push1 r i = becomes (goTo Pc.Push2 (seeing (i .v) r))
-does g Pc.Push2 r i =
+rule Pc.Push1 r = at (by.Load (cell.ShardHead 0)) λ g i. becomes (goTo Pc.Push2 (seeing (i .v) r))
+rule Pc.Push2 r = at (by.Update (cell.ShardHead 0)) λ g i.
     weak (i .v) (r .seen) (i .flag)
     (stores (r .unreclaimed) (also (cell.NodeNext (r .tail)) (r .seen) (becomes (passed (keeping 0 0 r)))))
     (also (cell.NodeNext (r .tail)) (r .seen) (becomes (seeing (i .v) r)))
-does g Pc.C1 r i = stores (plus (i .x) (r .rcount)) (becomes (goTo Pc.K1 (taking 0 r)))
-does g Pc.C3 r i = pick (eqb (r .operation) 11) (stores (less (i .x) 1) (becomes (goTo Pc.Wait r))) (stores (less (i .x) 1) (done (r .total)))
-does g Pc.Wait r i = pick (eqb (i .x) 0) (done 0) (becomes r)
+rule Pc.C1 r = at (by.Update cell.Count) λ g i. stores (plus (i .x) (r .rcount)) (becomes (goTo Pc.K1 (taking 0 r)))
+rule Pc.C3 r = at (by.Update cell.BulkReclaims) λ g i. pick (eqb (r .operation) 11) (stores (less (i .x) 1) (becomes (goTo Pc.Wait r))) (stores (less (i .x) 1) (done (r .total)))
+rule Pc.Wait r = at (by.Load cell.BulkReclaims) λ g i. pick (eqb (i .x) 0) (done 0) (becomes r)
 -- shutdown
-does g Pc.S1 r i = pick (eqb (i .v) 0) (stores 0 (becomes (shutNext g r))) (stores 0 (becomes (goTo Pc.S2 (reclaiming (i .v) r))))
-does g Pc.S2 r i = reclaims (r .reclaimable) (pick (eqb (i .v) 0) (shutNext g (freed (reclaiming (i .v) r))) (freed (reclaiming (i .v) r)))
-does g Pc.S3 r i = closing (r .total)
-does g Pc.Unknown r i = damaged r
+rule Pc.S1 r = at (by.Update (cell.ShardHead (r .shard))) λ g i. pick (eqb (i .v) 0) (stores 0 (becomes (shutNext g r))) (stores 0 (becomes (goTo Pc.S2 (reclaiming (i .v) r))))
+rule Pc.S2 r = at (by.Private (cell.NodeNext (r .reclaimable))) λ g i. reclaims (r .reclaimable) (pick (eqb (i .v) 0) (shutNext g (freed (reclaiming (i .v) r))) (freed (reclaiming (i .v) r)))
+rule Pc.S3 r = at (by.Store cell.Shutdown) λ g i. closing (r .total)
+rule Pc.Unknown r = at (by.Load cell.Nothing) λ g i. damaged r
+
+abbrev pub accesses : Pc → Row → Access
+accesses p r = rule p r .access
+
+abbrev pub does : Settings → Pc → Row → Seen → Effect
+does g p r i = rule p r .effect g i
 
 unfoldable pub accessOf : Row → Access
 accessOf r = accesses (pcOf (r .place)) r
-
-unfoldable pub followOf : Row → ℕ → Named
-followOf r untaken = follows r untaken
 
 unfoldable pub effectOf : Settings → Row → Seen → Effect
 effectOf g r i = does g (pcOf (r .place)) r i
