@@ -62,6 +62,11 @@ loose-loose t j h k =
     ap₂ _&&_ (true-of (leb 8 (8 + (t * 11 + j))) (le→leb 8 (8 + (t * 11 + j)) (omega arith)))
     (true-of (leb 9 ((8 + (t * 11 + j) - 8) % 11)) (le→leb 9 ((8 + (t * 11 + j) - 8) % 11) (omega arith)))
 
+-- every place behind the shards is a slot
+pub slot-is : (t j p : ℕ) → p ≡ 8 + (t * 11 + j) → p ≡ slot t j
+unfolding slot
+slot-is t j p e = e
+
 -- two slots of different threads, or different slots of one, are different places; a shard is no slot
 pub slot-thread : (t u i j : ℕ) → i < 11 → j < 11 → t ≢ u → slot t i ≢ slot u j
 unfolding slot

@@ -14,7 +14,7 @@ use Rattle.rules.specs.declared.Named.the-variants as cell
 use Rattle.rules.specs.declared.Access.{Access}
 use Rattle.rules.specs.declared.Access.the-variants as by
 use Rattle.view.specs.Calm.{pick-all}
-use Rattle.history.specs.Runs.{Event, eventAt}
+use Rattle.history.specs.Demand3.{Event, eventAt}
 
 -- the record whose hazard is stored to, and one more; 0 where none is
 abbrev hazardOf : Named → ℕ
@@ -49,7 +49,7 @@ storedIn (Event.validated c n) = 0
 storedIn (Event.retired n) = 0
 storedIn (Event.reclaimed n) = 0
 
-pub stores-told : (p : Pc) (r : Row) (a : Answer) → storedIn (eventAt p (r .rec) a) ≡ storedBy (accesses p r)
+pub stores-told : (p : Pc) (r : Row) (a : Answer) → storedIn (eventAt p r a) ≡ storedBy (accesses p r)
 stores-told Pc.Idle r a = refl
 stores-told Pc.A1 r a = refl
 stores-told Pc.A2 r a = refl

@@ -25,7 +25,7 @@ use Rattle.balance.specs.Balance.{CountIn, M, waiting, owes, over-none}
 use Rattle.balance.specs.Tally.{TallyIn, Done, inside}
 use Rattle.balance.specs.Total.{TotalIn}
 use Rattle.claims.specs.Claim.{Claim, ClaimsIn, Val, Safe}
-use Rattle.history.specs.Runs.{fresh}
+use Rattle.history.specs.Demand3.{fresh}
 
 abbrev none : ℕ → List ℕ
 none n = replicate n 0

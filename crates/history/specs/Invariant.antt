@@ -27,13 +27,13 @@ use Rattle.rules.specs.declared.Row.{Row}
 use Rattle.rules.specs.declared.Seen.{Seen}
 use Rattle.rules.specs.declared.Named.the-variants as cell
 use Rattle.bits.specs.BitLaws.{shard-below}
-use Rattle.lists.specs.Occ.{eq01, eq01-same, eq01-other}
+use Rattle.lists.specs.Occ.{eq01, eq01-same, eq01-other, sum}
 use Rattle.lists.specs.Heap.{waits}
 use Rattle.view.specs.View.{View, viewOf, named, applies, enters}
 use Rattle.view.specs.Given.{Sized, guard-words}
 use Rattle.view.specs.Long.{Long, long}
 use Rattle.view.specs.Turn
-use Rattle.view.specs.Turn.{Turn, Look, rowIn, step-turn}
+use Rattle.view.specs.Turn.{Turn, Look, rowIn, row-view, step-turn}
 use Rattle.view.specs.Begin
 use Rattle.view.specs.Begin.{Begin, Admitted, start-begin}
 use Rattle.heap.specs.Stage.{Allowed, HeapIn, pc-of-code}
@@ -48,8 +48,8 @@ use Rattle.balance.specs.Tally.{TallyIn, tally-place, tally-ends, tally-begin}
 use Rattle.balance.specs.Total.{TotalIn, total-place, total-ends, total-begin}
 use Rattle.claims.specs.Claim.{ClaimsIn}
 use Rattle.claims.specs.ClaimStep.{marks, claim-place, claim-ends, claim-begin, reclaim-waits}
-use Rattle.history.specs.Runs
-use Rattle.history.specs.Runs.{fresh, Move, act, Event, eventBy, eventOf, event, Run, claims, claimed, retires, reclaims, retirements, reclamations}
+use Rattle.history.specs.Demand3
+use Rattle.history.specs.Demand3.{fresh, row, Move, act, Event, eventBy, eventOf, event, Run, claims, claimed, retires, reclaims}
 use Rattle.history.specs.Fresh.{nothing, places, fresh-view, fresh-sized, fresh-heap, fresh-records, fresh-zone, fresh-count, fresh-tally, fresh-total, fresh-claims, fresh-waits}
 use Rattle.history.specs.Told.{Told, told}
 
@@ -81,7 +81,7 @@ pub record InvAt (g : Settings) (v : View) (h : List Event) : Type 0 where
   pub tally : TallyIn v
   pub total : TotalIn v
   pub claim : ClaimsIn v (claims h) lists
-  pub ledger : (n : ℕ) → retirements n h ≡ reclamations n h + waits (v .nodes .state) n
+  pub ledger : (n : ℕ) → sum (retires n) h ≡ sum (reclaims n) h + waits (v .nodes .state) n
 
 pub record Inv (g : Settings) (s : State) (h : List Event) : Type 0 where
   pub sized : Sized s
@@ -92,8 +92,8 @@ quietly : (g : Settings) (v : View) (h : List Event) (e : Event) → e ≡ Event
 quietly g v h e q I = subst (λ (x : Event). InvAt g v (x ∷ h)) (sym q) (record { lists = I .lists; heap = I .heap; records = I .records; zone = I .zone; count = I .count; tally = I .tally; total = I .total; claim = I .claim; ledger = λ n. let a = I .ledger n in omega arith })
 
 -- an answer from 16 on is no event
-none-by : (p : Pc) (rec n : ℕ) → 16 ≤ n → eventBy p rec (answer n 0) ≡ Event.quiet
-none-by p rec n h = rw (ne-eqb n 4 (omega arith), lt-ltb 15 n (omega arith))
+none-by : (p : Pc) (r : Row) (n : ℕ) → 16 ≤ n → eventBy p r (answer n 0) ≡ Event.quiet
+none-by p r n h = rw (ne-eqb n 4 (omega arith), lt-ltb 15 n (omega arith))
 
 module _ (g : Settings) (C : Chosen g) (s : State) (h : List Event) (I : Inv g s h) where
   abbrev v : View
@@ -131,7 +131,7 @@ module _ (g : Settings) (C : Chosen g) (s : State) (h : List Event) (I : Inv g s
     T : Told v t (claims h) p (does g p r i)
     T = told g v (long s) t (claims h) p i l w
 
-    taken : InvAt g v′ (eventBy p (r .rec) (answer (does g p r i .number) (does g p r i .value)) ∷ h)
+    taken : InvAt g v′ (eventBy p r (answer (does g p r i .number) (does g p r i .value)) ∷ h)
     taken = record {
       lists = N .lists;
       heap = N .inv;
@@ -144,12 +144,16 @@ module _ (g : Settings) (C : Chosen g) (s : State) (h : List Event) (I : Inv g s
       ledger = λ n. let a = A .ledger n in let b = T .waiting n in let c = T .retire n in omega arith;
     }
 
-  step-inv : (t : ℕ) (o : Out) → Turn g s t o → Inv g (o .state) (eventBy (pcOf (rowIn v t .place)) (rowIn v t .rec) (o .answer) ∷ h)
-  step-inv t o (Turn.stays n b e) = subst (λ (w : Out). Inv g (w .state) (eventBy (pcOf (rowIn v t .place)) (rowIn v t .rec) (w .answer) ∷ h)) (sym e) (record { sized = I .sized; at = quietly g v h _ (none-by (pcOf (rowIn v t .place)) (rowIn v t .rec) n b) A })
-  step-inv t o (Turn.stops n k w hk ht a e z) = record {
+  -- the row of the tables is the view's
+  seen-row : (t : ℕ) (o : Out) → t < threads → Inv g (o .state) (eventBy (pcOf (rowIn v t .place)) (rowIn v t) (o .answer) ∷ h) → Inv g (o .state) (eventBy (pcOf (row s t .place)) (row s t) (o .answer) ∷ h)
+  seen-row t o ht = subst (λ (x : Row). Inv g (o .state) (eventBy (pcOf (x .place)) x (o .answer) ∷ h)) (row-view s t ht)
+
+  step-inv : (t : ℕ) (o : Out) → Turn g s t o → Inv g (o .state) (eventBy (pcOf (row s t .place)) (row s t) (o .answer) ∷ h)
+  step-inv t o (Turn.stays n b e) = subst (λ (w : Out). Inv g (w .state) (eventBy (pcOf (row s t .place)) (row s t) (w .answer) ∷ h)) (sym e) (record { sized = I .sized; at = quietly g v h _ (none-by (pcOf (row s t .place)) (row s t) n b) A })
+  step-inv t o (Turn.stops n k w hk ht a e z) = seen-row t o ht (record {
     sized = z;
-    at = subst (λ (x : View). InvAt g x (eventBy (pcOf (rowIn v t .place)) (rowIn v t .rec) (o .answer) ∷ h)) (sym e)
-        (quietly g _ h _ (ap (eventBy (pcOf (rowIn v t .place)) (rowIn v t .rec)) a ∙ none-by (pcOf (rowIn v t .place)) (rowIn v t .rec) n (big k))
+    at = subst (λ (x : View). InvAt g x (eventBy (pcOf (rowIn v t .place)) (rowIn v t) (o .answer) ∷ h)) (sym e)
+        (quietly g _ h _ (ap (eventBy (pcOf (rowIn v t .place)) (rowIn v t)) a ∙ none-by (pcOf (rowIn v t .place)) (rowIn v t) n (big k))
         (record {
           lists = A .lists;
           heap = heap-ends g (C .allowed) v (A .lists) (A .heap) t (inside t ht) n w;
@@ -161,20 +165,20 @@ module _ (g : Settings) (C : Chosen g) (s : State) (h : List Event) (I : Inv g s
           claim = claim-ends g v (A .lists) (A .heap) (A .records) (A .zone) (claims h) (A .claim) (long s) t (inside t ht) (guard-words s (I .sized) t ht) n w;
           ledger = A .ledger;
         }));
-  }
+  })
     where
       big : {n : ℕ} → (n ≡ 25) ⊎ (n ≡ 26) → 16 ≤ n
       big (inl q) = omega arith
       big (inr q) = omega arith
-  step-inv t o (Turn.takes p i ht l a e z) = record {
+  step-inv t o (Turn.takes p i ht l a e z) = seen-row t o ht (record {
     sized = z;
-    at = subst (λ (x : View). InvAt g x (eventBy (pcOf (rowIn v t .place)) (rowIn v t .rec) (o .answer) ∷ h)) (sym e)
-        (subst (λ (x : Event). InvAt g (applies t (named (accesses p (rowIn v t))) (does g p (rowIn v t) i) v) (x ∷ h)) (sym (λ j. eventBy ((ap pcOf (l .place) ∙ pc-of-code p) j) (rowIn v t .rec) (a j))) (taken t ht p i l));
-  }
+    at = subst (λ (x : View). InvAt g x (eventBy (pcOf (rowIn v t .place)) (rowIn v t) (o .answer) ∷ h)) (sym e)
+        (subst (λ (x : Event). InvAt g (applies t (named (accesses p (rowIn v t))) (does g p (rowIn v t) i) v) (x ∷ h)) (sym (λ j. eventBy ((ap pcOf (l .place) ∙ pc-of-code p) j) (rowIn v t) (a j))) (taken t ht p i l));
+  })
 
   -- ---- a start
-  begun-events : (t : ℕ) (o : Operation) → Admitted v t o → (claimed (eventOf o (answer 1 0)) (claims h) ≡ claims h)
-      × ((n : ℕ) → retires n (eventOf o (answer 1 0)) + waits (v .nodes .state) n ≡ reclaims n (eventOf o (answer 1 0)) + waits (enters t (begins g o) v .nodes .state) n)
+  begun-events : (t : ℕ) (o : Operation) → Admitted v t o → (claimed (eventOf (answer 1 0) o) (claims h) ≡ claims h)
+      × ((n : ℕ) → retires n (eventOf (answer 1 0) o) + waits (v .nodes .state) n ≡ reclaims n (eventOf (answer 1 0) o) + waits (enters t (begins g o) v .nodes .state) n)
   unfolding begins
   begun-events t Acquire a = (refl, λ n. refl)
   begun-events t (Release x) a = (refl, λ n. refl)
@@ -199,7 +203,7 @@ module _ (g : Settings) (C : Chosen g) (s : State) (h : List Event) (I : Inv g s
   begun-events t Cleanup a = (refl, λ n. refl)
   begun-events t Shutdown a = (refl, λ n. refl)
 
-  none-of : (o : Operation) (n x : ℕ) → n ≢ 1 → eventOf o (answer n x) ≡ Event.quiet
+  none-of : (o : Operation) (n x : ℕ) → n ≢ 1 → eventOf (answer n x) o ≡ Event.quiet
   none-of Acquire n x ne = refl
   none-of (Release c) n x ne = refl
   none-of (Protect c b) n x ne = refl
@@ -213,12 +217,12 @@ module _ (g : Settings) (C : Chosen g) (s : State) (h : List Event) (I : Inv g s
   none-of Cleanup n x ne = refl
   none-of Shutdown n x ne = refl
 
-  start-inv : (t : ℕ) (o : Operation) (w : Out) → Begin g s t o w → Inv g (w .state) (eventOf o (w .answer) ∷ h)
-  start-inv t o w (Begin.stays n b e) = subst (λ (x : Out). Inv g (x .state) (eventOf o (x .answer) ∷ h)) (sym e) (record { sized = I .sized; at = quietly g v h _ (none-of o n 0 (omega arith)) A })
-  start-inv t o w (Begin.nothing e) = subst (λ (x : Out). Inv g (x .state) (eventOf o (x .answer) ∷ h)) (sym e) (record { sized = I .sized; at = quietly g v h _ (none-of o 2 0 (omega arith)) A })
+  start-inv : (t : ℕ) (o : Operation) (w : Out) → Begin g s t o w → Inv g (w .state) (eventOf (w .answer) o ∷ h)
+  start-inv t o w (Begin.stays n b e) = subst (λ (x : Out). Inv g (x .state) (eventOf (x .answer) o ∷ h)) (sym e) (record { sized = I .sized; at = quietly g v h _ (none-of o n 0 (omega arith)) A })
+  start-inv t o w (Begin.nothing e) = subst (λ (x : Out). Inv g (x .state) (eventOf (x .answer) o ∷ h)) (sym e) (record { sized = I .sized; at = quietly g v h _ (none-of o 2 0 (omega arith)) A })
   start-inv t o w (Begin.begun ht m q a ea e z) = record {
     sized = z;
-    at = subst (λ (x : View). InvAt g x (eventOf o (w .answer) ∷ h)) (sym e) (subst (λ (x : Answer). InvAt g (enters t (begins g o) v) (eventOf o x ∷ h)) (sym ea)
+    at = subst (λ (x : View). InvAt g x (eventOf (w .answer) o ∷ h)) (sym e) (subst (λ (x : Answer). InvAt g (enters t (begins g o) v) (eventOf x o ∷ h)) (sym ea)
         (let b = begun-events t o a in record {
           lists = begunLists (A .lists) t o;
           heap = heap-begin g (C .allowed) v (A .lists) (A .heap) t (inside t ht) q o a (long s .next) (C .shard);

@@ -1,4 +1,5 @@
-pub mod Runs
+pub mod Demand3
+pub mod Seen
 pub mod Events
 pub mod Fresh
 pub mod Told
@@ -8,3 +9,4 @@ pub mod OnePlace
 pub mod Once
 pub mod Bound
 pub mod Whole
+pub mod Proved

@@ -1,4 +1,4 @@
--- Demand 3, safety: a node is reclaimed only when no record holds a validated protection of it that has not been overwritten.
+-- Demand 3, safety.
 use mathlib.Core.Path.{_≡_, refl, sym, ap, _∙_, subst}
 use mathlib.Core.Logic.{_≢_, _⊎_, inl, inr}
 use mathlib.Core.Bool.{Bool}
@@ -16,7 +16,7 @@ use Rattle.view.specs.Long.{long}
 use Rattle.view.specs.Turn
 use Rattle.view.specs.Turn.{Turn, rowIn, step-turn}
 use Rattle.claims.specs.ClaimStep.{unclaimed, reclaim-waits}
-use Rattle.history.specs.Runs.{Event, Run, claims}
+use Rattle.history.specs.Demand3.{Event, Run, claims, Safe}
 use Rattle.history.specs.Told.{told}
 use Rattle.history.specs.Invariant.{Chosen, Inv, inv-run}
 
@@ -41,6 +41,5 @@ module _ (g : Settings) (C : Chosen g) {s : State} {h : List Event} (run : Run g
       let val : o .answer .value ≡ rowIn v t .reclaimable = ap (λ (x : Answer). x .value) a ∙ f .0 in
       λ q. unclaimed g v (I .at .lists) (I .at .heap) (I .at .records) (I .at .zone) (claims h) (I .at .claim) (long s) t hr gw (rowIn v t .reclaimable) c refl (f .1) (record { is = q ∙ val; some = f .1 })
 
-  -- the theorem: whatever was run, a step that answers 4 with node n finds no record c whose claim is n
-  pub safe : (t : ℕ) (flag : Bool) (clock : ℕ) → stepOf g s t flag clock .answer .number ≡ 4 → (c : ℕ) → getD (claims h) c 0 ≢ stepOf g s t flag clock .answer .value
-  safe t flag clock = unclaimed-by t (stepOf g s t flag clock) (step-turn g s t flag clock)
+pub safe : (g : Settings) → Chosen g → Safe g
+safe g C s h run t flag clock c four = unclaimed-by g C run t (stepOf g s t flag clock) (step-turn g s t flag clock) four c

@@ -31,12 +31,12 @@ use Rattle.view.specs.Calm.{pick-all, pick-case}
 use Rattle.view.specs.Long.{Long}
 use Rattle.view.specs.Turn.{rowIn, Look}
 use Rattle.claims.specs.ClaimStep.{marks}
-use Rattle.history.specs.Runs.{Event, eventBy, claimed, retires, reclaims}
+use Rattle.history.specs.Demand3.{Event, eventBy, claimed, retires, reclaims}
 
 pub record Told (v : View) (t : ℕ) (cl : List ℕ) (p : Pc) (e : Effect) : Type 0 where
-  pub claim : claimed (eventBy p (rowIn v t .rec) (answer (e .number) (e .value))) cl ≡ marks p (rowIn v t) e cl
-  pub waiting : (n : ℕ) → waits (v .nodes .state) n ≡ waits (applies t (named (accesses p (rowIn v t))) e v .nodes .state) n + reclaims n (eventBy p (rowIn v t .rec) (answer (e .number) (e .value)))
-  pub retire : (n : ℕ) → retires n (eventBy p (rowIn v t .rec) (answer (e .number) (e .value))) ≡ 0
+  pub claim : claimed (eventBy p (rowIn v t) (answer (e .number) (e .value))) cl ≡ marks p (rowIn v t) e cl
+  pub waiting : (n : ℕ) → waits (v .nodes .state) n ≡ waits (applies t (named (accesses p (rowIn v t))) e v .nodes .state) n + reclaims n (eventBy p (rowIn v t) (answer (e .number) (e .value)))
+  pub retire : (n : ℕ) → retires n (eventBy p (rowIn v t) (answer (e .number) (e .value))) ≡ 0
   pub frees : e .number ≡ 4 → (e .value ≡ rowIn v t .reclaimable) × (rowIn v t .reclaimable ≢ 0)
 
 module _ (g : Settings) (v : View) (lv : Long v) (t : ℕ) (cl : List ℕ) where

@@ -13,7 +13,7 @@ use Rattle.view.specs.Given.{sizes-of}
 use Rattle.view.specs.Long.{long}
 use Rattle.view.specs.Turn.{rowIn}
 use Rattle.balance.specs.Tally.{inside, few}
-use Rattle.history.specs.Runs.{Event, Run}
+use Rattle.history.specs.Demand3.{Event, Run}
 use Rattle.history.specs.Invariant.{Chosen, inv-run}
 
 module _ (g : Settings) (C : Chosen g) {s : State} {h : List Event} (run : Run g s h) where

@@ -1,0 +1,144 @@
+-- Demand 3 in whole: what a run is, what its history says, where a node may wait, and the four statements. Proved.antt proves them.
+-- Beside the rules this needs four words of lists: `tab n f` is f 0 to f (n - 1), `cat` joins lists, `occ n l` counts n in l, `sum f l` adds f over l.
+use Prim.Native.Nat.{ℕ, zero, suc, _+_, _*_, _^_, _≤_, _<_, max}
+use mathlib.Core.Path.{_≡_}
+use mathlib.Core.Logic.{_≢_}
+use mathlib.Core.Bool.{Bool, true, false}
+use mathlib.Core.List.{List, [], _∷_, _++_, map}
+use lib.ListN.{getD, set, replicate}
+use lib.Dec.{eqb, ltb}
+use Rattle.base.specs.Pick.{pick}
+use Rattle.rules.specs.Sizes.{records, sources, nodes, threads, words, row32, row64, Settings}
+use Rattle.rules.specs.Pc
+use Rattle.rules.specs.Pc.{Pc, code, pcOf}
+use Rattle.rules.specs.Cells.{address}
+use Rattle.rules.specs.Rows.{rowAt}
+use Rattle.rules.specs.Places.{accesses}
+use Rattle.rules.specs.Step.{State, Out, shared, state, fetched, stepOf}
+use Rattle.rules.specs.Start.{startOf}
+use Rattle.rules.specs.declared.Operation.{Operation}
+use Rattle.rules.specs.declared.Operation.the-variants.{Acquire, Release, Protect, Try, TryProtect, Reset, Raw, Swap, Retire, Eager, Cleanup, Shutdown}
+use Rattle.rules.specs.declared.Answer.{Answer}
+use Rattle.rules.specs.declared.Row.{Row}
+use Rattle.rules.specs.declared.Named.{Named}
+use Rattle.rules.specs.declared.Named.the-variants as cell
+use Rattle.rules.specs.declared.Access.{Access}
+use Rattle.rules.specs.declared.Access.the-variants as by
+use Rattle.lists.specs.Occ.{eq01, occ, sum}
+use Rattle.lists.specs.Flat.{cat}
+use Rattle.lists.specs.Tab.{tab}
+
+-- ---- a fresh domain: every cell, row and word is 0
+unfoldable pub fresh : State
+fresh = state (shared (replicate 11 0) (replicate 5 0) (replicate (4 * records) 0) (replicate sources 0) (replicate (2 * nodes) 0)) (replicate (row32 * threads) 0) (replicate (row64 * threads) 0) (replicate (words * threads) 0)
+
+abbrev pub row : State → ℕ → Row
+row s t = rowAt (s .rows32) (s .rows64) t
+
+abbrev pub holds : State → Named → ℕ
+holds s c = fetched (s .cells) (address c)
+
+-- ---- a move: a start or a step of any thread, with any fields, flag and clock
+pub data Move : Type 0 where
+  start : ℕ → Operation → Move
+  step : ℕ → Bool → ℕ → Move
+
+abbrev pub act : Settings → State → Move → Out
+act g s (start t o) = startOf g s t o
+act g s (step t flag clock) = stepOf g s t flag clock
+
+-- ---- what a move is to somebody who watches hazards and nodes
+-- record c's hazard was stored to; c's protection of node n was validated; node n's retirement was accepted; node n was reclaimed
+pub data Event : Type 0 where
+  quiet : Event
+  stored : ℕ → Event
+  validated : ℕ → ℕ → Event
+  retired : ℕ → Event
+  reclaimed : ℕ → Event
+
+abbrev pub storesHazard : Access → Bool
+storesHazard = elim [ by.Load c ↦ false | by.Store c ↦ false | by.HazardStore c ↦ true | by.Update c ↦ false | by.Private c ↦ false ]
+
+-- done at V2 validates: there protect, try and try_protect end well
+abbrev pub eventAt : Pc → Row → Answer → Event
+eventAt p r a =
+    pick (eqb (code p) (code Pc.V2)) (pick (eqb (a .number) 2) (validated (r .rec) (a .value)) quiet)
+    (pick (storesHazard (accesses p r)) (stored (r .rec)) quiet)
+
+-- 4 is a reclaimed node; from 16 on nothing was accessed
+abbrev pub eventBy : Pc → Row → Answer → Event
+eventBy p r a = pick (eqb (a .number) 4) (reclaimed (a .value)) (pick (ltb 15 (a .number)) quiet (eventAt p r a))
+
+abbrev pub eventOf : Answer → Operation → Event
+eventOf a = elim [ Acquire ↦ quiet | Release c ↦ quiet | Protect c b ↦ quiet | Try c b n ↦ quiet | TryProtect c b n ↦ quiet | Reset c ↦ quiet | Raw c n ↦ quiet | Swap b n ↦ quiet | Retire n x ↦ pick (eqb (a .number) 1) (retired n) quiet | Eager ↦ quiet | Cleanup ↦ quiet | Shutdown ↦ quiet ]
+
+abbrev pub event : Settings → State → Move → Event
+event g s (start t o) = eventOf (startOf g s t o .answer) o
+event g s (step t flag clock) = eventBy (pcOf (row s t .place)) (row s t) (stepOf g s t flag clock .answer)
+
+-- ---- a run: any moves from the fresh domain; its history: their events, the last first
+pub data Run (g : Settings) : State → List Event → Type 0 where
+  begins : Run g fresh []
+  goes : {s : State} {h : List Event} → Run g s h → (m : Move) → Run g (act g s m .state) (event g s m ∷ h)
+
+-- ---- a claim: the node that record c last validated, 0 where its hazard was stored to since
+abbrev pub claimed : Event → List ℕ → List ℕ
+claimed quiet cl = cl
+claimed (stored c) cl = set cl c 0
+claimed (validated c n) cl = set cl c n
+claimed (retired n) cl = cl
+claimed (reclaimed n) cl = cl
+
+abbrev pub claims : List Event → List ℕ
+claims [] = replicate (suc records) 0
+claims (e ∷ h) = claimed e (claims h)
+
+-- ---- how often node n's retirement was accepted, and how often n was reclaimed
+abbrev pub retires : ℕ → Event → ℕ
+retires n = elim [ quiet ↦ 0 | stored c ↦ 0 | validated c m ↦ 0 | retired m ↦ eq01 n m | reclaimed m ↦ 0 ]
+
+abbrev pub reclaims : ℕ → Event → ℕ
+reclaims n = elim [ quiet ↦ 0 | stored c ↦ 0 | validated c m ↦ 0 | retired m ↦ 0 | reclaimed m ↦ eq01 n m ]
+
+-- ---- waiting: 1 where node n waits; how many do
+abbrev pub waits : State → ℕ → ℕ
+waits s n = eq01 (holds s (cell.NodeState n)) 2
+
+abbrev pub waiting : State → ℕ
+waiting s = sum (waits s) (tab nodes suc)
+
+-- ---- the places of waiting nodes: the head of a list, and the node after which it ends, 0 where it ends by itself.
+-- A shard's list; in a thread's row what is left of its stolen lists, its reclaim list, its kept list, and a retire's lone node
+abbrev pub inRow : Row → List (ℕ × ℕ)
+inRow r = map (λ h. (h, 0)) (r .stolen) ++ ((r .reclaimable, 0) ∷ (r .unreclaimed, r .tail) ∷ (r .lone, r .lone) ∷ [])
+
+abbrev pub places : State → List (ℕ × ℕ)
+places s = map (λ h. (h, 0)) (tab 8 (λ k. holds s (cell.ShardHead k))) ++ cat (map inRow (tab threads (row s)))
+
+-- at most k nodes from h on, followed by `next`
+unfoldable pub follow : (ℕ → ℕ) → ℕ → ℕ → ℕ → List ℕ
+follow next end zero h = []
+follow next end (suc k) h = pick (eqb h 0) [] (h ∷ pick (eqb h end) [] (follow next end k (next h)))
+
+abbrev pub listAt : State → ℕ × ℕ → List ℕ
+listAt s p = follow (λ n. holds s (cell.NodeNext n)) (p .1) nodes (p .0)
+
+-- ---- the four statements, for 1, 2, 4 or 8 shards, any floor and any clock rule
+abbrev pub Choice : Settings → Type 0
+Choice g = (k : ℕ) × (k ≤ 3) × (g .shards ≡ 2 ^ k)
+
+-- 1. A step that reclaims a node finds no record whose claim is that node.
+abbrev pub Safe : Settings → Type 0
+Safe g = (s : State) (h : List Event) → Run g s h → (t : ℕ) (flag : Bool) (clock c : ℕ) → stepOf g s t flag clock .answer .number ≡ 4 → getD (claims h) c 0 ≢ stepOf g s t flag clock .answer .value
+
+-- 2. Over all places together a waiting node stands once, and nothing else stands there.
+abbrev pub OnePlace : Settings → Type 0
+OnePlace g = (s : State) (h : List Event) → Run g s h → (n : ℕ) → sum (λ p. occ n (listAt s p)) (places s) ≡ waits s n
+
+-- 3. A node was retired as often as it was reclaimed, and once more if it waits: at every moment, so that the two alternate.
+abbrev pub Once : Settings → Type 0
+Once g = (s : State) (h : List Event) → Run g s h → (n : ℕ) → sum (retires n) h ≡ sum (reclaims n) h + waits s n
+
+-- 4. When no thread is inside an operation, at most max(floor, 2 x records) nodes wait.
+abbrev pub Bound : Settings → Type 0
+Bound g = (s : State) (h : List Event) → Run g s h → ((t : ℕ) → t < threads → row s t .place ≡ 0) → waiting s ≤ max (g .floor) (2 * holds s cell.RecordCount)
