@@ -6,8 +6,8 @@ use mathlib.Core.Logic.{_≢_}
 use mathlib.Core.Bool.{Bool, true, false}
 use mathlib.Core.List.{List, [], _∷_, _++_, map}
 use lib.ListN.{getD, set, replicate}
-use lib.Dec.{eqb, ltb}
-use Rattle.base.specs.Pick.{pick}
+use lib.Dec.{eqb, ltb, leb}
+use Rattle.base.specs.Pick.{pick, both}
 use Rattle.rules.specs.Sizes.{records, sources, nodes, threads, words, row32, row64, Settings}
 use Rattle.rules.specs.Pc
 use Rattle.rules.specs.Pc.{Pc, code, pcOf}
@@ -59,11 +59,12 @@ pub data Event : Type 0 where
 abbrev pub storesHazard : Access → Bool
 storesHazard = elim [ by.Load c ↦ false | by.Store c ↦ false | by.HazardStore c ↦ true | by.Update c ↦ false | by.Private c ↦ false ]
 
--- done at V2 validates: there protect, try and try_protect end well
+-- V0 to V3 are the places of protect, try and try_protect
+abbrev pub protecting : Pc → Bool
+protecting p = both (leb (code Pc.V0) (code p)) (leb (code p) (code Pc.V3))
+
 abbrev pub eventAt : Pc → Row → Answer → Event
-eventAt p r a =
-    pick (eqb (code p) (code Pc.V2)) (pick (eqb (a .number) 2) (validated (r .rec) (a .value)) quiet)
-    (pick (storesHazard (accesses p r)) (stored (r .rec)) quiet)
+eventAt p r a = pick (both (protecting p) (eqb (a .number) 2)) (validated (r .rec) (a .value)) (pick (storesHazard (accesses p r)) (stored (r .rec)) quiet)
 
 -- 4 is a reclaimed node; from 16 on nothing was accessed
 abbrev pub eventBy : Pc → Row → Answer → Event
