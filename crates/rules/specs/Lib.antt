@@ -6,3 +6,4 @@ pub mod Rows
 pub mod Places
 pub mod Step
 pub mod Start
+pub mod Facts

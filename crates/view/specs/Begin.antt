@@ -17,6 +17,7 @@ use Rattle.rules.specs.Cells
 use Rattle.rules.specs.Cells.{address, cellAt, nowhere}
 use Rattle.rules.specs.Rows.{rowAt}
 use Rattle.rules.specs.Step.{State, Out, out, answer, refused, sizes, atIn}
+use Rattle.rules.specs.Facts.{retire-unlinked, shutdown-alone}
 use Rattle.rules.specs.Start.{isIn, isAbove, anyAbove, narrow, orElse, notOwned, notSource, notNode, retireBy, notRetirable, busyBy, busy, notProtectable, notTryable, notRaw, notSwappable, refusal, refuseBy, refuseOf, begins, entered, ofNull, startBy, startIn, startOf}
 use Rattle.rules.specs.declared.Operation.{Operation}
 use Rattle.rules.specs.declared.Operation.the-variants.{Acquire, Release, Protect, Try, TryProtect, Reset, Raw, Swap, Retire, Eager, Cleanup, Shutdown}
@@ -159,12 +160,11 @@ module _ (s : State) (z : Sized s) (t : ℕ) where
       let a = fails (eqb n 0) 24 _ (omega arith) h in
       let b = fails (ltb nodes n) 24 _ (omega arith) (a .1) in
       let c = holds (eqb (getD (s .cells .nodes) (atIn (address (cell.NodeState (narrow n))) Cells.inNodes) 0) 1) 25 _ (omega arith) (b .1) in
-      let d = fails (isIn (narrow n) (s .cells .sources)) 25 _ (omega arith) (c .1) in
       let le = ltb-false nodes n (b .0) in
       let ne = eqb-false n 0 (a .0) in
       let same : narrow n ≡ n = omega arith in
       let w = state-at (narrow n) (eqb-true _ 1 (c .0)) in
-      (rw same at (w .0), rw same at (w .1), sources-none n ne (rw same at (d .0)))
+      (rw same at (w .0), rw same at (w .1), sources-none n ne (rw same at (retire-unlinked n (getD (s .cells .nodes) (atIn (address (cell.NodeState (narrow n))) Cells.inNodes) 0) (isIn (narrow n) (s .cells .sources)) (isAbove nodes (s .cells .sources)) h)))
 
   nobody : anyAbove (s .rows32) 0 row32 0 0 threads ≡ false → (u : ℕ) → u < threads → rowIn (viewOf s) u .place ≡ 0
   unfolding rowAt
@@ -181,10 +181,7 @@ module _ (s : State) (z : Sized s) (t : ℕ) where
 
   idle-all : busy (s .rows32) (s .cells .records) ≡ 0 → Admitted (viewOf s) t Shutdown
   unfolding busy
-  idle-all h =
-      let a = fails (anyAbove (s .rows32) 0 row32 0 0 threads) 27 _ (omega arith) h in
-      let b = fails (anyAbove (s .cells .records) 1 4 3 0 records) 27 0 (omega arith) (a .1) in
-      (nobody (a .0), unowned (b .0))
+  idle-all h = let a = shutdown-alone (anyAbove (s .rows32) 0 row32 0 0 threads) (anyAbove (s .cells .records) 1 4 3 0 records) h in (nobody (a .0), unowned (a .1))
 
   admitted : (o : Operation) → refusal (s .cells .records) (s .cells .sources) (s .cells .nodes) (s .rows32) t o ≡ 0 → Admitted (viewOf s) t o
   unfolding refusal
