@@ -6,7 +6,7 @@ use mathlib.Core.Bool.{Bool, true, false, false≢true, true≢false}
 use mathlib.Core.List.{List, [], _∷_}
 use lib.ListN.{length, getD, List·getD-eq-default}
 use lib.Dec.{eqb, ltb}
-use borrow.Author.Tests.{eqb-true, eqb-false, ltb-true, ltb-false}
+use borrow.Author.Tests.{eqb-true, eqb-false, ltb-true, ltb-false, le-ltb}
 use native.Mathlib.Decide.{decLt}
 use native.Mathlib.Omega.{arith}
 use Rattle.base.specs.Pick.{pick, both}
@@ -30,10 +30,10 @@ use Rattle.lists.specs.Tab.{tab, tab-get, tab-length}
 use Rattle.view.specs.Field.{IsId, field, field-get}
 use Rattle.view.specs.View.{View, viewOf, InTable, get, enters}
 use Rattle.view.specs.Written.{Fits}
-use Rattle.view.specs.Given.{Sized, sized-of, view-entered, sized-entered}
+use Rattle.view.specs.Given.{Sized, sized-of, sizes-of, view-entered, sized-entered}
 use Rattle.view.specs.Ranges.{not-first}
-use Rattle.view.specs.Calm.{Eight, pick-case}
-use Rattle.view.specs.Turn.{rowIn, row-view}
+use Rattle.view.specs.Calm.{Eight, pick-all, pick-case}
+use Rattle.view.specs.Turn.{rowIn, row-view, Fine}
 
 -- ---- what the checks of a start leave
 abbrev pub Owned : View → ℕ → ℕ → Type 0
@@ -198,50 +198,55 @@ module _ (s : State) (z : Sized s) (t : ℕ) where
   admitted Cleanup h = tt
   admitted Shutdown h = idle-all h
 
--- ---- a refusal is a number from 16 on
+-- ---- what holds of 0 and of every number from 17 on but 29 holds of a refusal, and so does what holds of 29 where a source or the mark is damaged
+module _ (P : ℕ → Type 0) (none : P 0) (high : (n : ℕ) → 16 < n → n ≢ 29 → P n) where
+  or-all : (n m : ℕ) → P n → P m → P (orElse n m)
+  or-all n m a b = pick-case P (eqb n 0) _ _ (λ _. b) (λ _. a)
+
+  owned-all : (l : List ℕ) (t a : ℕ) → P (notOwned l t a)
+  unfolding notOwned
+  owned-all l t a = pick-case P (eqb (getD l (atIn (address (cell.Holder a)) Cells.inRecords) 0) (t + 2)) _ _ (λ _. none) (λ _. high 22 (omega arith) (omega arith))
+
+  source-all : (b : ℕ) → P (notSource b)
+  source-all b = pick-case P (eqb b 0) _ _ (λ _. high 23 (omega arith) (omega arith)) (λ _. pick-case P (ltb sources b) _ _ (λ _. high 23 (omega arith) (omega arith)) (λ _. none))
+
+  node-all : (n : ℕ) → P (notNode n)
+  node-all n = pick-case P (ltb nodes n) _ _ (λ _. high 24 (omega arith) (omega arith)) (λ _. none)
+
+  retire-all : (n st : ℕ) (a b : Bool) → (b ≡ true → P 29) → P (retireBy n st a b)
+  retire-all n st a b d = pick-case P (eqb n 0) _ _ (λ _. high 24 (omega arith) (omega arith)) (λ _. pick-case P (ltb nodes n) _ _ (λ _. high 24 (omega arith) (omega arith)) (λ _. pick-case P (eqb st 1) _ _ (λ _. pick-case P a _ _ (λ _. high 25 (omega arith) (omega arith)) (λ _. pick-case P b _ _ d (λ _. none))) (λ _. high 25 (omega arith) (omega arith))))
+
+  busy-all : (a b : Bool) → P (busyBy a b)
+  busy-all a b = pick-case P a _ _ (λ _. high 27 (omega arith) (omega arith)) (λ _. pick-case P b _ _ (λ _. high 27 (omega arith) (omega arith)) (λ _. none))
+
+  refusal-all : (s : State) (t : ℕ) (o : Operation) → (isAbove nodes (s .cells .sources) ≡ true → P 29) → P (refusal (s .cells .records) (s .cells .sources) (s .cells .nodes) (s .rows32) t o)
+  unfolding refusal notProtectable notTryable notRaw notSwappable notRetirable busy
+  refusal-all s t Acquire d = none
+  refusal-all s t (Release a) d = owned-all (s .cells .records) t a
+  refusal-all s t (Protect a b) d = or-all _ _ (owned-all (s .cells .records) t a) (source-all b)
+  refusal-all s t (Try a b n) d = or-all _ _ (or-all _ _ (owned-all (s .cells .records) t a) (source-all b)) (node-all n)
+  refusal-all s t (TryProtect a b n) d = or-all _ _ (or-all _ _ (owned-all (s .cells .records) t a) (source-all b)) (node-all n)
+  refusal-all s t (Reset a) d = owned-all (s .cells .records) t a
+  refusal-all s t (Raw a n) d = or-all _ _ (owned-all (s .cells .records) t a) (node-all n)
+  refusal-all s t (Swap b n) d = or-all _ _ (source-all b) (node-all n)
+  refusal-all s t (Retire n x) d = retire-all n (getD (s .cells .nodes) (atIn (address (cell.NodeState (narrow n))) Cells.inNodes) 0) (isIn (narrow n) (s .cells .sources)) (isAbove nodes (s .cells .sources)) d
+  refusal-all s t Eager d = none
+  refusal-all s t Cleanup d = none
+  refusal-all s t Shutdown d = busy-all (anyAbove (s .rows32) 0 row32 0 0 threads) (anyAbove (s .cells .records) 1 4 3 0 records)
+
+  refuse-all : (s : State) (t : ℕ) (o : Operation) → (isAbove nodes (s .cells .sources) ≡ true → P 29) → (2 < getD (s .cells .heads) 2 0 → P 29) → P (refuseOf (s .cells) (s .rows32) t o)
+  unfolding refuseOf
+  refuse-all s t o d m =
+      pick-case P (eqb (getD (s .cells .heads) 2 0) 1) _ _ (λ _. high 18 (omega arith) (omega arith)) (λ _. pick-case P (eqb (getD (s .cells .heads) 2 0) 2) _ _ (λ _. high 18 (omega arith) (omega arith))
+      (λ _. pick-case P (eqb (getD (s .rows32) (t * row32) 0) (code Pc.Idle)) _ _ (λ _. pick-case P (eqb (refusal (s .cells .records) (s .cells .sources) (s .cells .nodes) (s .rows32) t o) 0) _ _ (λ _. pick-case P (ltb 2 (getD (s .cells .heads) 2 0)) _ _ (λ q. m (ltb-true _ _ q)) (λ _. none)) (λ _. refusal-all s t o d)) (λ _. high 20 (omega arith) (omega arith))))
+
+-- a refusal is a number from 16 on
 abbrev High : ℕ → Type 0
 High n = (n ≡ 0) ⊎ (16 ≤ n)
 
 least : {n : ℕ} → High n → n ≢ 0 → 16 ≤ n
 least (inl e) ne = absurd (ne e)
 least (inr h) ne = h
-
-or-high : (n m : ℕ) → High n → High m → High (orElse n m)
-or-high n m a b = pick-case High (eqb n 0) _ _ (λ _. b) (λ _. a)
-
-owned-high : (l : List ℕ) (t a : ℕ) → High (notOwned l t a)
-unfolding notOwned
-owned-high l t a = pick-case High (eqb (getD l (atIn (address (cell.Holder a)) Cells.inRecords) 0) (t + 2)) _ _ (λ _. inl refl) (λ _. inr (omega arith))
-
-source-high : (b : ℕ) → High (notSource b)
-source-high b = pick-case High (eqb b 0) _ _ (λ _. inr (omega arith)) (λ _. pick-case High (ltb sources b) _ _ (λ _. inr (omega arith)) (λ _. inl refl))
-
-node-high : (n : ℕ) → High (notNode n)
-node-high n = pick-case High (ltb nodes n) _ _ (λ _. inr (omega arith)) (λ _. inl refl)
-
-retire-high : (n st : ℕ) (a b : Bool) → High (retireBy n st a b)
-retire-high n st a b = pick-case High (eqb n 0) _ _ (λ _. inr (omega arith)) (λ _. pick-case High (ltb nodes n) _ _ (λ _. inr (omega arith)) (λ _. pick-case High (eqb st 1) _ _ (λ _. pick-case High a _ _ (λ _. inr (omega arith)) (λ _. pick-case High b _ _ (λ _. inr (omega arith)) (λ _. inl refl))) (λ _. inr (omega arith))))
-
-busy-high : (a b : Bool) → High (busyBy a b)
-busy-high a b = pick-case High a _ _ (λ _. inr (omega arith)) (λ _. pick-case High b _ _ (λ _. inr (omega arith)) (λ _. inl refl))
-
-refusal-high : (s : State) (t : ℕ) (o : Operation) → High (refusal (s .cells .records) (s .cells .sources) (s .cells .nodes) (s .rows32) t o)
-unfolding refusal notProtectable notTryable notRaw notSwappable notRetirable busy
-refusal-high s t Acquire = inl refl
-refusal-high s t (Release a) = owned-high (s .cells .records) t a
-refusal-high s t (Protect a b) = or-high _ _ (owned-high (s .cells .records) t a) (source-high b)
-refusal-high s t (Try a b n) = or-high _ _ (or-high _ _ (owned-high (s .cells .records) t a) (source-high b)) (node-high n)
-refusal-high s t (TryProtect a b n) = or-high _ _ (or-high _ _ (owned-high (s .cells .records) t a) (source-high b)) (node-high n)
-refusal-high s t (Reset a) = owned-high (s .cells .records) t a
-refusal-high s t (Raw a n) = or-high _ _ (owned-high (s .cells .records) t a) (node-high n)
-refusal-high s t (Swap b n) = or-high _ _ (source-high b) (node-high n)
-refusal-high s t (Retire n x) = retire-high n (getD (s .cells .nodes) (atIn (address (cell.NodeState (narrow n))) Cells.inNodes) 0) (isIn (narrow n) (s .cells .sources)) (isAbove nodes (s .cells .sources))
-refusal-high s t Eager = inl refl
-refusal-high s t Cleanup = inl refl
-refusal-high s t Shutdown = busy-high (anyAbove (s .rows32) 0 row32 0 0 threads) (anyAbove (s .cells .records) 1 4 3 0 records)
-
-refuse-high : (mark place n : ℕ) → High n → High (refuseBy mark place n)
-refuse-high mark place n h = pick-case High (eqb mark 1) _ _ (λ _. inr (omega arith)) (λ _. pick-case High (eqb mark 2) _ _ (λ _. inr (omega arith)) (λ _. pick-case High (eqb place (code Pc.Idle)) _ _ (λ _. pick-case High (eqb n 0) _ _ (λ _. pick-case High (ltb 2 mark) _ _ (λ _. inr (omega arith)) (λ _. inl refl)) (λ _. h)) (λ _. inr (omega arith))))
 
 -- ---- the start
 pub data Begin (g : Settings) (s : State) (t : ℕ) (o : Operation) (w : Out) : Type 0 where
@@ -333,7 +338,7 @@ module _ (g : Settings) (s : State) (z : Sized s) (t : ℕ) (ht : t < threads) (
   in-begin =
       pick-case (Begin g s t o) (eqb (refuseBy mark place n) 0) _ _
       (λ q. pick-case (Begin g s t o) (ofNull (begins g o)) _ _ (λ _. nothing refl) (λ _. enter (unrefused (eqb-true _ 0 q))))
-      (λ q. stays (refuseBy mark place n) (least (refuse-high mark place n (refusal-high s t o)) (eqb-false _ 0 q)) refl)
+      (λ q. stays (refuseBy mark place n) (least (refuse-all High (inl refl) (λ m h _. inr (omega arith)) s t o (λ _. inr (omega arith)) (λ _. inr (omega arith))) (eqb-false _ 0 q)) refl)
     where
       enter : (mark ≡ 0) × (place ≡ 0) × (n ≡ 0) → Begin g s t o (out (answer 1 0) (entered s t (begins g o)))
       enter k =
@@ -347,3 +352,23 @@ pub start-begin : (g : Settings) (s : State) (t : ℕ) (o : Operation) → Begin
 unfolding startOf
 start-begin g s t o =
     pick-case (Begin g s t o) (sizes s) _ _ (λ q. pick-case (Begin g s t o) (ltb t threads) _ _ (λ h. in-begin g s (sized-of s q) t (ltb-true t threads h) o) (λ _. stays 17 (omega arith) refl)) (λ _. stays 16 (omega arith) refl)
+
+-- ---- on whole tables no start answers 16 or 29
+all-low : (n : ℕ) (l : List ℕ) → ((k : ℕ) → getD l k 0 ≤ n) → isAbove n l ≡ false
+all-low n [] h = refl
+all-low n (x ∷ l) h = rw (le-ltb n x (h 0)) (all-low n l (λ k. h (suc k)))
+
+pub start-whole : (g : Settings) (s : State) → Sized s → (t : ℕ) (o : Operation) → viewOf s .heads .mark ≤ 2 → ((b : ℕ) → getD (viewOf s .sources) b 0 ≤ nodes) → Fine (startOf g s t o .answer .number)
+unfolding startOf startIn viewOf
+start-whole g s z t o m low =
+    rw (sizes-of s z) (pick-all At (ltb t threads) _ _
+    (pick-all At (eqb (refuseOf (s .cells) (s .rows32) t o) 0) _ _ (pick-all At (ofNull (begins g o)) _ _ (omega arith) (omega arith))
+    (refuse-all Fine (omega arith) (λ n h ne. omega arith) s t o (λ q. absurd (true≢false (sym q ∙ all-low nodes (s .cells .sources) (λ k. at k (decLt k sources))))) (λ q. absurd (omega arith))))
+    (omega arith))
+  where
+    At : Out → Type 0
+    At w = Fine (w .answer .number)
+
+    at : (k : ℕ) → Dec (k < sources) → getD (s .cells .sources) k 0 ≤ nodes
+    at k (yes q) = let e = field-get 1 sources (s .cells .sources) 0 (suc k) (omega arith) in let f = low (suc k) in rw (let j : k ≡ (suc k - 1) * 1 + 0 = omega arith in j) (rw e at f)
+    at k (no q) = rw (List·getD-eq-default (s .cells .sources) 0 {n = k} (omega (arith, z .cells .sources))) (omega arith)

@@ -30,7 +30,7 @@ use Rattle.lists.specs.Tab.{tab, tab-get}
 use Rattle.view.specs.Field.{IsId, field, field-get}
 use Rattle.view.specs.View.{View, view, viewOf, rowsIn, guardsIn, named, InTable, get, applies}
 use Rattle.view.specs.Written.{narrow, fetched-view}
-use Rattle.view.specs.Given.{Sized, Sound, sized-of, view-given, sized-given, guards-get}
+use Rattle.view.specs.Given.{Sized, Sound, sized-of, sizes-of, view-given, sized-given, guards-get}
 use Rattle.view.specs.Ranges.{Reads, limit, limit-narrow, reached, is-cell, access-reached, read-limit, in-limit, Small, small-of, code-of, not-first}
 use Rattle.view.specs.Calm.{Eight, Calm, calm, Ended, Plain, numbered, pick-all, pick-case}
 
@@ -88,6 +88,10 @@ unfolding untakenFor
 lowest-view l place = pick-case (λ (u : ℕ). u ≢ 0 → (getD (field 4 3 records l) u 0 ≡ 0) ⊎ (threads + 1 < getD (field 4 3 records l) u 0)) (eqb place (code Pc.N1)) _ _
     (λ _ ne. let k = found-untaken l 0 records ne in rw (field-get 4 records l 3 (untakenFrom l 0 records) (k .0, k .1)) (k .2)) (λ _ ne. absurd (ne refl))
 
+lowest-id : (l : List ℕ) (place : ℕ) → untakenFor l place ≢ 0 → IsId records (untakenFor l place)
+unfolding untakenFor
+lowest-id l place = pick-all (λ (u : ℕ). u ≢ 0 → IsId records u) (eqb place (code Pc.N1)) _ _ (λ ne. let k = found-untaken l 0 records ne in (k .0, omega arith)) (λ ne. absurd (ne refl))
+
 -- what a step that is taken at place p, with row r, knows of what it saw
 pub record Look (g : Settings) (k : View) (t : ℕ) (p : Pc) (r : Row) (i : Seen) : Type 0 where
   pub place : r .place ≡ code p
@@ -115,6 +119,36 @@ sees {p = p} {r = r} l q n =
     let c = l .v in
     let d = l .x in
     (omega arith, omega arith)
+
+-- what it knows before any test, if the names that it uses are cells'
+pub record Sees (k : View) (t : ℕ) (p : Pc) (r : Row) (i : Seen) : Type 0 where
+  pub place : r .place ≡ code p
+  pub reach : InTable (named (accesses p r))
+  pub x : i .x ≡ get (named (accesses p r)) k
+  pub v : i .v ≡ i .x % 2 ^ 32
+  pub beyond : InTable (beside p r (i .untaken))
+  pub y : i .y ≡ get (beside p r (i .untaken)) k
+  pub w : i .w ≡ i .y % 2 ^ 32
+  pub thread : i .thread ≡ t
+
+pub seen-of : {g : Settings} {k : View} {t : ℕ} {p : Pc} {r : Row} {i : Seen} → Look g k t p r i → Sees k t p r i
+seen-of l = record { place = l .place; reach = l .reach; x = l .x; v = l .v; beyond = l .beyond; y = l .y; w = l .w; thread = l .thread }
+
+-- an answer that whole tables give
+abbrev pub Fine : ℕ → Type 0
+Fine n = (n ≢ 16) × (n ≢ 29)
+
+-- the names that a step of row r uses are cells', and what it answers is fine
+pub record Whole (g : Settings) (k : View) (t : ℕ) (r : Row) : Type 0 where
+  pub reach : (p : Pc) → r .place ≡ code p → InTable (named (accesses p r))
+  pub beyond : (p : Pc) (u : ℕ) → r .place ≡ code p → (u ≢ 0 → IsId records u) → InTable (beside p r u)
+  pub also : (p : Pc) (i : Seen) → Sees k t p r i → InTable (does g p r i .also)
+  pub fine : (p : Pc) (i : Seen) → Sees k t p r i → Fine (does g p r i .number)
+
+-- every content is in its range, and 0 is in each
+pub record InRange (k : View) : Type 0 where
+  pub held : (a : Access) → InTable (named a) → inRange (accessed a .class) (get (named a) k) ≡ true
+  pub null : (c : Named) → InTable c → inRange (address c .class) 0 ≡ true
 
 pub data Turn (g : Settings) (s : State) (t : ℕ) (o : Out) : Type 0 where
   stays : (n : ℕ) → 16 ≤ n → o ≡ refused n s → Turn g s t o
@@ -246,6 +280,31 @@ module _ (g : Settings) (s : State) (z : Sized s) (t : ℕ) (ht : t < threads) (
   unfolding takeOf lookOf lookBy judged accessOf effectOf
   takes-turn = judging fits refl
 
+  -- ---- the other way round: where the tests pass the answer is the effect's
+  passes : fits ≡ true → Fine (e .number) → Fine (takeOf g s t flag clock .answer .number)
+  unfolding takeOf lookOf lookBy judged accessOf effectOf
+  passes h k = rw h (pick-all At (eqb (e .number) 25) _ _ taking (pick-all At (eqb (e .number) 26) _ _ taking taking))
+    where
+      At : Effect → Type 0
+      At d = Fine (takeBy s t c d .answer .number)
+
+      taking : At e
+      taking = pick-case (λ (o : Out). Fine (o .answer .number)) (eqb (e .number) 29) _ _ (λ q. absurd (k .1 (eqb-true (e .number) 29 q))) (λ _. k)
+
+  whole : rowFits g (s .rows32) t ≡ true → InRange (viewOf s) → Whole g (viewOf s) t R → Fine (takeOf g s t flag clock .answer .number)
+  unfolding viewOf readBy
+  whole f n k =
+      let q : R .place ≡ code p = sym (code-of (R .place) (small-of g (s .rows32) (s .rows64) t f .place)) in
+      let w : followOf R u ≡ beside p R u = follow-is q in
+      let reach = k .reach p q in
+      let far = k .beyond p u q (lowest-id (s .cells .records) (R .place)) in
+      let x : i .x ≡ get (named (accesses p R)) (viewOf s) = access-fetched (s .cells) (accesses p R) ∙ fetched-view (s .cells) _ _ (named (accesses p R)) reach in
+      let y : i .y ≡ get (beside p R u) (viewOf s) = ap (λ (n : Named). fetched (s .cells) (address n)) w ∙ fetched-view (s .cells) _ _ (beside p R u) far in
+      let see : Sees (viewOf s) t p R i = record { place = q; reach = reach; x = x; v = refl; beyond = far; y = y; w = refl; thread = refl } in
+      let a : inRange (c .class) (i .x) ≡ true = ap (inRange (c .class)) x ∙ n .held (accesses p R) reach in
+      let b : inRange (l .class) (i .y) ≡ true = ap (λ (m : Named). inRange (address m .class) (i .y)) w ∙ ap (inRange (address (beside p R u) .class)) y ∙ n .held (by.Load (beside p R u)) far in
+      passes (rw (f, a, b) (n .null (e .also) (k .also p i see))) (k .fine p i see)
+
 in-turn : (g : Settings) (s : State) → Sized s → (t : ℕ) → t < threads → (flag : Bool) (clock : ℕ) → Turn g s t (stepIn g s t flag clock)
 unfolding stepIn
 in-turn g s z t ht flag clock =
@@ -257,3 +316,19 @@ pub step-turn : (g : Settings) (s : State) (t : ℕ) (flag : Bool) (clock : ℕ)
 unfolding stepOf
 step-turn g s t flag clock =
     pick-case (Turn g s t) (sizes s) _ _ (λ q. pick-case (Turn g s t) (ltb t threads) _ _ (λ h. in-turn g s (sized-of s q) t (ltb-true t threads h) flag clock) (λ _. stays 17 (omega arith) refl)) (λ _. stays 16 (omega arith) refl)
+
+-- on whole tables no step answers 16 or 29
+module _ (g : Settings) (s : State) (z : Sized s) (fit : (t : ℕ) → t < threads → rowFits g (s .rows32) t ≡ true) (n : InRange (viewOf s)) (k : (t : ℕ) → t < threads → rowIn (viewOf s) t .place ≢ 0 → Whole g (viewOf s) t (rowIn (viewOf s) t)) (t : ℕ) (flag : Bool) (clock : ℕ) where
+  abbrev At : Out → Type 0
+  At o = Fine (o .answer .number)
+
+  in-whole : t < threads → At (stepIn g s t flag clock)
+  unfolding stepIn rowAt
+  in-whole ht =
+      pick-case At (leb steps (getD (s .cells .counters) 4 0)) _ _ (λ _. omega arith)
+      (λ e. pick-case At (eqb (getD (s .rows32) (t * row32) 0) (code Pc.Idle)) _ _ (λ _. omega arith)
+      (λ q. whole g s z t ht flag clock (leb-false _ _ e) (fit t ht) n (subst (λ (r : Row). r .place ≢ 0 → Whole g (viewOf s) t r) (row-view s t ht) (k t ht) (λ b. eqb-false _ 0 q (ap (λ (m : ℕ). getD (s .rows32) m 0) (let j : t * row32 ≡ t * row32 + 0 = omega arith in j) ∙ b)))))
+
+  pub step-whole : At (stepOf g s t flag clock)
+  unfolding stepOf
+  step-whole = rw (sizes-of s z) (pick-case At (ltb t threads) _ _ (λ h. in-whole (ltb-true t threads h)) (λ _. omega arith))
