@@ -1,0 +1,5 @@
+pub mod Range
+pub mod Names
+pub mod Right
+pub mod Tests
+pub mod RangeStep
