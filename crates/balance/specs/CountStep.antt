@@ -237,7 +237,7 @@ module _ (g : Settings) (v : View) (I : CountIn g v) (Z : ZoneIn v) (lv : Long v
       none (inr e) o = subst (λ (q : Pc). LooksOf q count (r .count)) e o
 
 -- ---- the bound: with no thread inside, few nodes wait
-waiting-le : (l : List ℕ) → waiting l ≤ length l
+pub waiting-le : (l : List ℕ) → waiting l ≤ length l
 waiting-le [] = omega arith
 waiting-le (x ∷ l) = let a = waiting-le l in let b = eq01-le x 2 in omega arith
 

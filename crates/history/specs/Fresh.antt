@@ -25,6 +25,7 @@ use Rattle.balance.specs.Balance.{CountIn, M, waiting, owes, over-none}
 use Rattle.balance.specs.Tally.{TallyIn, Done, inside}
 use Rattle.balance.specs.Total.{TotalIn}
 use Rattle.claims.specs.Claim.{Claim, ClaimsIn, Val, Safe}
+use Rattle.ranges.specs.Range.{Below, Fit, Ranges}
 use Rattle.history.specs.Demand3.{fresh}
 
 abbrev none : ℕ → List ℕ
@@ -181,4 +182,27 @@ fresh-claims = record {
   safe = λ u _. each (Safe (none (suc records)) 0 (nothing .guards) (none (suc records)) (replicate places [])) (λ u. tt) threads u;
   over = λ m c n k. k .some (sym (k .is) ∙ zeros (suc records) c);
   long = refl;
+}
+
+low : (m n : ℕ) → Below m (none n)
+low m n k = rw (zeros n k) (omega arith)
+
+pub fresh-ranges : (g : Settings) → Ranges g nothing
+fresh-ranges g = record {
+  rows = λ u _. each (λ u x. Fit g x) (λ u. record { words = omega arith; stolen = low nodes 8 }) threads u;
+  recordHead = omega arith;
+  headAvailable = omega arith;
+  mark = omega arith;
+  shards = low nodes shardHeads;
+  recordCount = omega arith;
+  count = omega arith;
+  dueTime = omega arith;
+  bulkReclaims = omega arith;
+  hazard = low nodes (suc records);
+  availableNext = low records (suc records);
+  recordNext = low records (suc records);
+  holder = low (threads + 1) (suc records);
+  sources = low nodes (suc sources);
+  next = low nodes (suc nodes);
+  state = low 2 (suc nodes);
 }

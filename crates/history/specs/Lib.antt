@@ -9,4 +9,5 @@ pub mod OnePlace
 pub mod Once
 pub mod Bound
 pub mod Whole
+pub mod Undamaged
 pub mod Proved

@@ -2,7 +2,7 @@
 use mathlib.Core.Path.{_≡_}
 use mathlib.Core.Bool.{true}
 use mathlib.Core.List.{List}
-use Prim.Native.Nat.{ℕ, _^_, _≤_, _<_}
+use Prim.Native.Nat.{ℕ, _+_, _%_, _^_, _≤_, _<_}
 use native.Mathlib.Omega.{arith}
 use lib.ListN.{getD}
 use Rattle.rules.specs.Sizes.{steps, threads, Settings}
@@ -12,6 +12,8 @@ use Rattle.view.specs.View.{viewOf}
 use Rattle.view.specs.Given.{sizes-of}
 use Rattle.view.specs.Long.{long}
 use Rattle.view.specs.Turn.{rowIn}
+use Rattle.balance.specs.Balance.{owes, waiting}
+use Rattle.balance.specs.CountStep.{waiting-le}
 use Rattle.balance.specs.Tally.{inside, few}
 use Rattle.history.specs.Demand3.{Event, Run}
 use Rattle.history.specs.Invariant.{Chosen, inv-run}
@@ -40,6 +42,10 @@ module _ (g : Settings) (C : Chosen g) {s : State} {h : List Event} (run : Run g
 
   pub count-fits : viewOf s .counters .count < 2 ^ 64
   count-fits = inv-run g C run .at .count .fits
+
+  -- until shutdown starts, `count` and what the threads owe come to what waits, as words of 64 bits
+  pub count-is : viewOf s .heads .mark ≡ 0 → (viewOf s .counters .count + sum owes (viewOf s .rows)) % 2 ^ 64 ≡ waiting (viewOf s .nodes .state)
+  count-is m = let b = inv-run g C run .at .count .balance m .bal in let w = waiting-le (viewOf s .nodes .state) in let l = long s .state in omega arith
 
   -- a node's state is one of the three
   pub states-below : (n : ℕ) → getD (viewOf s .nodes .state) n 0 ≤ 2
