@@ -2,3 +2,4 @@ pub mod Balance
 pub mod CountStep
 pub mod Tally
 pub mod Total
+pub mod Swing

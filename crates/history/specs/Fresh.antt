@@ -24,6 +24,7 @@ use Rattle.shutdown.specs.Zone.{ZoneIn, OpenRow}
 use Rattle.balance.specs.Balance.{CountIn, M, waiting, owes, over-none}
 use Rattle.balance.specs.Tally.{TallyIn, Done, inside}
 use Rattle.balance.specs.Total.{TotalIn}
+use Rattle.balance.specs.Swing.{SwingIn, swing, size-0}
 use Rattle.claims.specs.Claim.{Claim, ClaimsIn, Val, Safe}
 use Rattle.ranges.specs.Range.{Below, Fit, Ranges}
 use Rattle.history.specs.Demand3.{fresh}
@@ -169,6 +170,9 @@ fresh-tally = record { tally = sym (sums inside refl threads); dones = λ u _. e
 
 pub fresh-total : TotalIn nothing
 fresh-total = λ u _. each (λ u x. x .total ≤ 0) (λ u. omega arith) threads u
+
+pub fresh-swing : SwingIn nothing
+fresh-swing = let a = sums swing refl threads in let b = size-0 in omega arith
 
 pub fresh-zone : ZoneIn nothing
 fresh-zone = inl (refl, λ u _. each (λ u x. OpenRow x) (λ u. tt) threads u)

@@ -46,13 +46,14 @@ use Rattle.balance.specs.Balance.{CountIn}
 use Rattle.balance.specs.CountStep.{count-place, count-ends, count-begin}
 use Rattle.balance.specs.Tally.{TallyIn, tally-place, tally-ends, tally-begin}
 use Rattle.balance.specs.Total.{TotalIn, total-place, total-ends, total-begin}
+use Rattle.balance.specs.Swing.{SwingIn, swing-place, swing-ends, swing-begin}
 use Rattle.claims.specs.Claim.{ClaimsIn}
 use Rattle.ranges.specs.Range.{Ranges}
 use Rattle.ranges.specs.RangeStep.{range-place, range-ends, range-begin}
 use Rattle.claims.specs.ClaimStep.{marks, claim-place, claim-ends, claim-begin, reclaim-waits}
 use Rattle.history.specs.Demand3
 use Rattle.history.specs.Demand3.{fresh, row, Move, act, Event, eventBy, eventOf, event, Run, claims, claimed, retires, reclaims}
-use Rattle.history.specs.Fresh.{nothing, places, fresh-view, fresh-sized, fresh-heap, fresh-records, fresh-zone, fresh-count, fresh-tally, fresh-total, fresh-claims, fresh-ranges, fresh-waits}
+use Rattle.history.specs.Fresh.{nothing, places, fresh-view, fresh-sized, fresh-heap, fresh-records, fresh-zone, fresh-count, fresh-tally, fresh-total, fresh-swing, fresh-claims, fresh-ranges, fresh-waits}
 use Rattle.history.specs.Told.{Told, told}
 
 -- settings as document 02 may choose them, with a shard rule that stays among them
@@ -82,6 +83,7 @@ pub record InvAt (g : Settings) (v : View) (h : List Event) : Type 0 where
   pub count : CountIn g v
   pub tally : TallyIn v
   pub total : TotalIn v
+  pub swing : SwingIn v
   pub claim : ClaimsIn v (claims h) lists
   pub ranges : Ranges g v
   pub ledger : (n : ℕ) → sum (retires n) h ≡ sum (reclaims n) h + waits (v .nodes .state) n
@@ -92,7 +94,7 @@ pub record Inv (g : Settings) (s : State) (h : List Event) : Type 0 where
 
 -- nothing happened
 quietly : (g : Settings) (v : View) (h : List Event) (e : Event) → e ≡ Event.quiet → InvAt g v h → InvAt g v (e ∷ h)
-quietly g v h e q I = subst (λ (x : Event). InvAt g v (x ∷ h)) (sym q) (record { lists = I .lists; heap = I .heap; records = I .records; zone = I .zone; count = I .count; tally = I .tally; total = I .total; claim = I .claim; ranges = I .ranges; ledger = λ n. let a = I .ledger n in omega arith })
+quietly g v h e q I = subst (λ (x : Event). InvAt g v (x ∷ h)) (sym q) (record { lists = I .lists; heap = I .heap; records = I .records; zone = I .zone; count = I .count; tally = I .tally; total = I .total; swing = I .swing; claim = I .claim; ranges = I .ranges; ledger = λ n. let a = I .ledger n in omega arith })
 
 -- an answer from 16 on is no event
 none-by : (p : Pc) (r : Row) (n : ℕ) → 16 ≤ n → eventBy p r (answer n 0) ≡ Event.quiet
@@ -143,6 +145,7 @@ module _ (g : Settings) (C : Chosen g) (s : State) (h : List Event) (I : Inv g s
       count = count-place g v (A .count) (A .zone) (long s) t (inside t ht) (l .early) p i l w;
       tally = tally-place g v (A .tally) (long s .rows) t (inside t ht) p i l;
       total = total-place g v (A .total) t (inside t ht) (l .early) p i l;
+      swing = swing-place g v (A .swing) t (inside t ht) (l .early) p i l;
       claim = subst (λ (c : List ℕ). ClaimsIn v′ c (N .lists)) (sym (T .claim)) (claim-place g v (A .lists) (A .heap) (A .records) (A .zone) (claims h) (A .claim) (long s) t (inside t ht) gw p i l N);
       ranges = range-place g (C .allowed) v (A .lists) (A .heap) (A .records) (claims h) (A .claim) (A .ranges) (long s .rows) t ht p i l;
       ledger = λ n. let a = A .ledger n in let b = T .waiting n in let c = T .retire n in omega arith;
@@ -166,6 +169,7 @@ module _ (g : Settings) (C : Chosen g) (s : State) (h : List Event) (I : Inv g s
           count = count-ends g v (A .count) (A .zone) (long s) t (inside t ht) hk n w;
           tally = tally-ends g v (A .tally) (long s .rows) t (inside t ht) n w;
           total = total-ends g v (A .total) t (inside t ht) hk n;
+          swing = swing-ends g v (A .swing) t (inside t ht) hk n;
           claim = claim-ends g v (A .lists) (A .heap) (A .records) (A .zone) (claims h) (A .claim) (long s) t (inside t ht) (guard-words s (I .sized) t ht) n w;
           ranges = range-ends g (C .allowed) v (A .lists) (A .heap) (A .records) (claims h) (A .claim) (A .ranges) (long s .rows) t ht n;
           ledger = A .ledger;
@@ -236,6 +240,7 @@ module _ (g : Settings) (C : Chosen g) (s : State) (h : List Event) (I : Inv g s
           count = count-begin g v (A .count) (long s) t (inside t ht) m q o a (long s .rows);
           tally = tally-begin g v (A .tally) (long s .rows) t (inside t ht) q o a;
           total = total-begin g v (A .total) t (inside t ht) o;
+          swing = swing-begin g v (A .swing) t (inside t ht) o;
           claim = subst (λ (c : List ℕ). ClaimsIn (enters t (begins g o) v) c (begunLists (A .lists) t o)) (sym (b .0)) (claim-begin g v (A .lists) (A .heap) (A .records) (A .zone) (claims h) (A .claim) (long s) t (inside t ht) (guard-words s (I .sized) t ht) q (long s .rows) o a);
           ranges = range-begin g (C .allowed) v (A .lists) (A .heap) (A .records) (claims h) (A .claim) (A .ranges) (long s .rows) t ht (C .shard) o a;
           ledger = λ n. let x = A .ledger n in let y = b .1 n in omega arith;
@@ -249,7 +254,7 @@ module _ (g : Settings) (C : Chosen g) (s : State) (h : List Event) (I : Inv g s
 pub inv-fresh : (g : Settings) → Inv g fresh []
 inv-fresh g = record {
   sized = fresh-sized;
-  at = subst (λ (x : View). InvAt g x []) (sym fresh-view) (record { lists = _; heap = fresh-heap g; records = fresh-records; zone = fresh-zone; count = fresh-count g; tally = fresh-tally; total = fresh-total; claim = fresh-claims; ranges = fresh-ranges g; ledger = λ n. sym (zero-add (waits (nothing .nodes .state) n) ∙ fresh-waits n) });
+  at = subst (λ (x : View). InvAt g x []) (sym fresh-view) (record { lists = _; heap = fresh-heap g; records = fresh-records; zone = fresh-zone; count = fresh-count g; tally = fresh-tally; total = fresh-total; swing = fresh-swing; claim = fresh-claims; ranges = fresh-ranges g; ledger = λ n. sym (zero-add (waits (nothing .nodes .state) n) ∙ fresh-waits n) });
 }
 
 -- every run meets the invariant

@@ -1,5 +1,6 @@
--- Demand 3, corollaries: on the tables of a run the test for 16 passes, and the steps counted, the record count, `nbulk_reclaims` and the totals do not wrap.
+-- Demand 3, corollaries: on the tables of a run the test for 16 passes, and the steps counted, the record count, `nbulk_reclaims`, `count` and the totals do not wrap.
 use mathlib.Core.Path.{_≡_}
+use mathlib.Core.Logic.{_⊎_}
 use mathlib.Core.Bool.{true}
 use mathlib.Core.List.{List}
 use Prim.Native.Nat.{ℕ, _+_, _%_, _^_, _≤_, _<_}
@@ -15,6 +16,7 @@ use Rattle.view.specs.Turn.{rowIn}
 use Rattle.balance.specs.Balance.{owes, waiting}
 use Rattle.balance.specs.CountStep.{waiting-le}
 use Rattle.balance.specs.Tally.{inside, few}
+use Rattle.balance.specs.Swing.{near-zero}
 use Rattle.history.specs.Demand3.{Event, Run}
 use Rattle.history.specs.Invariant.{Chosen, inv-run}
 
@@ -42,6 +44,10 @@ module _ (g : Settings) (C : Chosen g) {s : State} {h : List Event} (run : Run g
 
   pub count-fits : viewOf s .counters .count < 2 ^ 64
   count-fits = inv-run g C run .at .count .fits
+
+  -- as a signed number it is at most the steps counted away from 0, and so does not wrap
+  pub count-near : (viewOf s .counters .count ≤ viewOf s .counters .ticks) ⊎ (2 ^ 64 ≤ viewOf s .counters .count + viewOf s .counters .ticks)
+  count-near = near-zero (viewOf s .counters .count) (viewOf s .counters .ticks) count-fits (let a = inv-run g C run .at .swing in omega arith)
 
   -- until shutdown starts, `count` and what the threads owe come to what waits, as words of 64 bits
   pub count-is : viewOf s .heads .mark ≡ 0 → (viewOf s .counters .count + sum owes (viewOf s .rows)) % 2 ^ 64 ≡ waiting (viewOf s .nodes .state)
