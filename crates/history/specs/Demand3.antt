@@ -1,4 +1,4 @@
--- Demand 3 in whole: what a run is, what its history says, where a node may wait, and the four statements. Proved.antt proves them.
+-- Demand 3 in whole: what a run is, what its history says, where a node may wait, the four statements and that no cell is damaged. Proved.antt proves them.
 -- Beside the rules this needs four words of lists: `tab n f` is f 0 to f (n - 1), `cat` joins lists, `occ n l` counts n in l, `sum f l` adds f over l.
 use Prim.Native.Nat.{ℕ, zero, suc, _+_, _*_, _^_, _≤_, _<_, max}
 use mathlib.Core.Path.{_≡_}
@@ -124,7 +124,7 @@ follow next end (suc k) h = pick (eqb h 0) [] (h ∷ pick (eqb h end) [] (follow
 abbrev pub listAt : State → ℕ × ℕ → List ℕ
 listAt s p = follow (λ n. holds s (cell.NodeNext n)) (p .1) nodes (p .0)
 
--- ---- the four statements, for 1, 2, 4 or 8 shards, any floor and any clock rule
+-- ---- the statements, for 1, 2, 4 or 8 shards, any floor and any clock rule
 abbrev pub Choice : Settings → Type 0
 Choice g = (k : ℕ) × (k ≤ 3) × (g .shards ≡ 2 ^ k)
 
@@ -143,3 +143,7 @@ Once g = (s : State) (h : List Event) → Run g s h → (n : ℕ) → sum (retir
 -- 4. When no thread is inside an operation, at most max(floor, 2 x records) nodes wait.
 abbrev pub Bound : Settings → Type 0
 Bound g = (s : State) (h : List Event) → Run g s h → ((t : ℕ) → t < threads → row s t .place ≡ 0) → waiting s ≤ max (g .floor) (2 * holds s cell.RecordCount)
+
+-- 5. On the tables of a run no start and no step answers 16 or 29.
+abbrev pub Unbroken : Settings → Type 0
+Unbroken g = (s : State) (h : List Event) → Run g s h → (m : Move) → (act g s m .answer .number ≢ 16) × (act g s m .answer .number ≢ 29)
