@@ -26,7 +26,7 @@ for c in order:
         if m=='main': continue
         if m!='lib' and not re.search(r'^pub mod '+m+';',libs,flags=re.M): continue
         s=open(f).read()
-        for mm in re.finditer(r'^pub fn (\w+)\((.*?)\)(?: -> ([^\n{]*?))?\s*\n((?:    (?:requires|ensures)[^\n]*\n)*)\{',s,flags=re.M|re.S):
+        for mm in re.finditer(r'^pub (?:extern "C" )?fn (\w+)\((.*?)\)(?: -> ([^\n{]*?))?\s*\n((?:    (?:requires|ensures)[^\n]*\n)*)\{',s,flags=re.M|re.S):
             name,params,ret,cl=mm.groups()
             req='requires' in cl
             ens=re.findall(r'ensures(?: \w+)? \{ λ (\S+) ?\. ⌜ (.*?) ⌝ \}',cl)

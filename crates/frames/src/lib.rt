@@ -152,21 +152,17 @@ fn starts(x: u64, y: u64, z: u64, thread: u32, operation: Operation) -> Line
 }
 
 // The line of a frame's numbers, by its kind.
-fn framed(f: Fields) -> Line
-    requires { ⌜ Fit f ⌝ }
-    ensures { λ r. ⌜ r ≡ framed f ⌝ }
+pub fn line_by_kind(kind: u32, t: u32, a: u32, b: u32, c: u64) -> Line
+    ensures { λ r. ⌜ r ≡ framed (Frames.fields kind t a b c) ⌝ }
 {
-    let kind = f.kind as u32;
-    let t = f.thread as u32;
-    let a = f.a;
-    let b = f.b;
-    let c = f.c;
-    let rec = a as u32;
-    let source = b as u32;
+    let x = a as u64;
+    let y = b as u64;
+    let rec = a;
+    let source = b;
     match kind {
-        0 => step(t, a, b, c),
-        kind::ACQUIRE => starts(a, b, c, t, Operation::Acquire),
-        kind::RELEASE => starts(0, b, c, t, Operation::Release { rec }),
+        0 => step(t, x, y, c),
+        kind::ACQUIRE => starts(x, y, c, t, Operation::Acquire),
+        kind::RELEASE => starts(0, y, c, t, Operation::Release { rec }),
         kind::PROTECT => starts(0, 0, c, t, Operation::Protect { rec, source }),
         kind::TRY => starts(
             0,
@@ -190,24 +186,31 @@ fn framed(f: Fields) -> Line
                 node: c,
             },
         ),
-        kind::RESET => starts(0, b, c, t, Operation::Reset { rec }),
-        kind::RAW => starts(0, b, 0, t, Operation::Raw { rec, node: c }),
-        kind::SWAP => starts(a, 0, 0, t, Operation::Swap { source, node: c }),
+        kind::RESET => starts(0, y, c, t, Operation::Reset { rec }),
+        kind::RAW => starts(0, y, 0, t, Operation::Raw { rec, node: c }),
+        kind::SWAP => starts(x, 0, 0, t, Operation::Swap { source, node: c }),
         kind::RETIRE => starts(
             0,
-            b,
+            y,
             0,
             t,
             Operation::Retire {
-                node: a,
+                node: x,
                 address: c,
             },
         ),
-        kind::EAGER => starts(a, b, c, t, Operation::Eager),
-        kind::CLEANUP => starts(a, b, c, t, Operation::Cleanup),
-        kind::SHUTDOWN => starts(a, b, c, t, Operation::Shutdown),
+        kind::EAGER => starts(x, y, c, t, Operation::Eager),
+        kind::CLEANUP => starts(x, y, c, t, Operation::Cleanup),
+        kind::SHUTDOWN => starts(x, y, c, t, Operation::Shutdown),
         _ => Line::Bad,
     }
+}
+
+fn framed(f: Fields) -> Line
+    requires { ⌜ Fit f ⌝ }
+    ensures { λ r. ⌜ r ≡ framed f ⌝ }
+{
+    line_by_kind(f.kind as u32, f.thread as u32, f.a as u32, f.b as u32, f.c)
 }
 
 fn read_digits(bytes: &[u8]) -> Line
