@@ -1,10 +1,12 @@
 #!/usr/bin/env bash
 # Bad input for `replay`: truncated, binary, huge and empty inputs, a closed output, a read error. No crash, no hang, and
-# nothing written that is not an answer. Needs target/bin/replay (`rt check replay`); on Arm, set REPLAY to a command that
-# runs it under the kit's emulator.
+# nothing written that is not an answer. Needs target/bin/replay (`rt check replay`). REPLAY names another command.
 set -u
 cd "$(dirname "$0")/.."
-replay=${REPLAY:-target/bin/replay}
+name=tools/badinput.sh
+. tools/kit.sh
+find_kit || exit 2
+replay=${REPLAY:-$(program_words) target/bin/replay}
 work=$(mktemp -d)
 trap 'rm -rf "$work"' EXIT
 passed=0

@@ -42,3 +42,10 @@ run_program() { # PROGRAM [WORDS...]
     [ ! -x "$built/bin/qemu-x86_64" ] || set -- "$built/bin/qemu-x86_64" "$@"
     "$@"
 }
+
+# The words that run_program puts before a program, for a command that has to be one.
+program_words() {
+    built=$kit/on/$machine/toolchain
+    [ ! -x "$built/bin/qemu-x86_64" ] || printf '%s ' "$built/bin/qemu-x86_64"
+    printf '%s' "$built/lib/ld-linux-x86-64.so.2 --library-path $built/lib"
+}
