@@ -5,8 +5,8 @@
     python3 tools/cases.py                           # ORACLE=path names another build of the oracle
 
 The expected answers of the first part are written out here from document 01's rules, place by place, and from no run.
-Those of the second part are the oracle's: `oracle gen` makes a replay a profile, `oracle run` answers it. The files are
-committed, so that the gate needs neither Python nor Rust.
+Those of the second part are the oracle's: `oracle gen` makes a replay a profile, `oracle run` answers it. So are those of
+the third, the days of days/. The files are committed, so that the gate needs neither Python nor Rust.
 
 A case is a line `# NAME` and then, a line each, a replay line, a blank and the answer expected. A line that is the one
 before it again is written as a dot. What only the tables show, as `count` at -1, is left to the trace program; where
@@ -730,7 +730,10 @@ def oracle(*words, data=b''):
 
 def sample(profile, seed):
     replay = oracle('gen', '--seed', str(seed), '--lines', str(LINES), '--profile', profile)
-    replay = replay[:replay.rindex(b'\n') + 1]
+    return answered(replay[:replay.rindex(b'\n') + 1])
+
+
+def answered(replay):
     answers = oracle('run', data=replay).split(b'\n')[:-1]
     return list(zip(replay.split(b'\n')[:-1], answers))
 
@@ -747,6 +750,14 @@ for profile in oracle('profiles').decode().split():
     seed = best(profile)
     c = Case('oracle %s seed %d' % (profile, seed))
     c.lines = sample(profile, seed)
+
+
+# ---- The days, their comments left out
+
+for day in ['plan', 'epoch', 'storm', 'stalled', 'linked', 'shutdown']:
+    c = Case('day ' + day)
+    with open(os.path.join(ROOT, 'days', day + '.replay'), 'rb') as f:
+        c.lines = answered(b''.join(line for line in f if not line.startswith(b'#')))
 
 
 # ---- The last line of the input
