@@ -192,6 +192,18 @@ sleep 1
 after=$(ps -A -o args= | grep -c '^sleep 77')
 if [ "$status" -eq 143 ] && [ "$before" -eq 1 ] && [ "$after" -eq 0 ]; then pass; else fail "a build that is stopped: status $status, $before helpers before and $after after"; fi
 
+# ---- on Arm, where every other test has run under the kit's emulator; elsewhere one that only pretends
+if [ "$machine" != aarch64 ]; then
+    arm=$work/kit/on/aarch64/toolchain
+    mkdir -p "$arm/bin" "$work/arm" && ln -s "$kit/on/$machine/toolchain/lib" "$arm/lib"
+    printf '#!/bin/sh\necho emulated >>"%s"\nexec "$@"\n' "$work/emulated" >"$arm/bin/qemu-x86_64"
+    printf '#!/bin/sh\necho aarch64\n' >"$work/arm/uname"
+    chmod +x "$arm/bin/qemu-x86_64" "$work/arm/uname"
+    run env PATH="$work/arm:$PATH" RATTLE_HOME="$work/kit" "$work/copy/kevrespil" replay "$work/example"
+    same "replay on Arm" "$work/answers"
+    if [ "$(cat "$work/emulated")" = emulated ]; then pass; else fail "the emulator is used on Arm"; fi
+fi
+
 # ---- test, with a gate and scripts that only pretend
 mkdir "$work/copy/.ci" && cp .ci/run "$work/copy/.ci/"
 for one in badinput days library picture frontdoor; do
