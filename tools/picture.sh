@@ -74,6 +74,11 @@ done
 if [ -z "$browser" ]; then
     echo "the browser skipped: there is no Chromium"
 else
+    # Lines that are no frames, nor fit into a page as they are.
+    printf '<script>x</script>\n0100000000000000000000000000\n\377\001</pre><b>&amp;\n' >"$work/bad.replay"
+    ./kevrespil picture "$work/bad.replay" >"$work/bad.html"
+    opened "$work/bad.html" >"$work/dom"
+    is "bad lines" "$(grep -o '<body data-state="shown".*' "$work/dom" | grep -c 'data-bars="1".*data-refused="2"')" 1
     # A line is asked for by its number, as by pointing at it.
     opened "$work/linked.html#17" | grep -o '<div id="said".*' >"$work/dom"
     is "what a line shows" "$(grep -c 'swap of source 1, node 1' "$work/dom")" 1
