@@ -1,5 +1,6 @@
 #!/usr/bin/env python3
-# Writes docs/PROMISES.md's table of public functions anew from the sources: each one's promise as its contract states it.
+# Writes docs/PROMISES.md's table of public functions anew from the sources: each one's promise as its contract states it;
+# and behind each file of its table of demands the lines where the theorems or contracts of that row stand.
 # S and S′ stand for the eight tables at entry and exit, C and C′ for the five shared ones, a primed name for a slice at exit.
 import glob
 import os
@@ -37,5 +38,32 @@ for c in order:
 out='| function | promise | one |\n|---|---|---|\n'+'\n'.join(f"| `{a}` | {('`'+p+'`') if p else '-'} | {o} |" for a,f,p,o in rows)+'\n'
 page = open('docs/PROMISES.md').read()
 begin, end = page.index('| function |'), page.index('\n\n', page.index('| function |')) + 1
-open('docs/PROMISES.md', 'w').write(page[:begin] + out + page[end:])
+page = page[:begin] + out + page[end:]
+
+
+# The lines of the file on which one of the names is declared.
+def lines(path, names):
+    found = []
+    for n, line in enumerate(open(path), 1):
+        declared = re.match(r'\s*(?:abbrev |unfoldable )?(?:pub )?(?:fn )?([\w-]+)(?: :|\()', line)
+        if declared and declared[1] in names and ' = ' not in line.split(' : ')[0]:
+            found.append(str(n))
+    return found
+
+
+def located(row):
+    cells = row.split(' | ')
+    names = re.findall(r'`([\w-]+)`', cells[1])
+    paths = []
+    for path in cells[2].rstrip(' |').split(', '):
+        path = path.split(':')[0]
+        at = lines(path, names) if os.path.isfile(path) else []
+        paths.append(path + (':' + ':'.join(at) if at else ''))
+    return ' | '.join([cells[0], cells[1], ', '.join(paths)]) + ' |'
+
+
+begin = page.index('|---|---|---|\n', page.index('## Demands')) + len('|---|---|---|\n')
+end = page.index('\n\n', begin)
+page = page[:begin] + '\n'.join(located(row) for row in page[begin:end].split('\n')) + page[end:]
+open('docs/PROMISES.md', 'w').write(page)
 print(len(rows), 'public functions,', sum(r[3] == 'no' for r in rows), 'with a requires')
