@@ -1,0 +1,28 @@
+-- `why::busy` meets its contract. Assumes nothing.
+use Prim.Native.Nat.{_≤_, _-_}
+use borrow.Author.Needs.{needs}
+use native.Mathlib.Omega.{arith}
+use Rattle.read.proofs.why.busy.Statement.{statement}
+use Rattle.read.proofs.why.busy.Tie as tie
+
+abbrev Inv-loop : tie.InvT-loop
+Inv-loop rows32 t₀ t = t ≤ 16
+
+abbrev μ-loop : tie.MeasureT-loop
+μ-loop rows32 t₀ t = 16 - t
+
+pub busy-spec : {M : Type 1} → statement M
+busy-spec =
+    tie.close
+    (tie.spec
+    Inv-loop
+    μ-loop
+    (λ c. omega arith)
+    (λ c. omega arith)
+    (λ c. omega arith)
+    (λ c κs. search needs)
+    (λ c. search needs)
+    (λ c. omega arith)
+    (λ c. omega arith)
+    (λ c. omega arith)
+    (λ c. omega arith))
