@@ -1,6 +1,7 @@
 // One line of the listing, and one line of numbers.
 use crate::names;
 use crate::seen;
+use crate::text::byte;
 use crate::text::number;
 use crate::text::number_hex;
 use crate::text::put;
@@ -39,61 +40,43 @@ const WORDS: usize = 65;
 // The first of the numbers that refuse.
 const REFUSES: u32 = 16;
 
-fn record(text: &mut [u8], at: usize, w: Told) -> usize {
-    say_number(text, at, b" record ", w.rec as u64)
-}
-
-fn source(text: &mut [u8], at: usize, w: Told) -> usize {
-    say_number(text, at, b" source ", w.source as u64)
-}
-
-fn node(text: &mut [u8], at: usize, w: Told) -> usize {
-    say_number(text, at, b" node ", w.node)
+// An argument, where an operation has it: `has` is an x at the operation's kind.
+fn argument(text: &mut [u8], at: usize, has: &[u8], kind: u32, name: &[u8], x: u64) -> usize {
+    if byte(has, kind as usize) == b'x' {
+        return say_number(text, at, name, x);
+    }
+    at
 }
 
 fn address(text: &mut [u8], at: usize, w: Told) -> usize {
-    let k = say_number(text, at, b" shard ", bits::shard(w.address) as u64);
-    let e = say(text, k, b" at 0x");
-    number_hex(text, e, w.address)
-}
-
-fn record_source(text: &mut [u8], at: usize, w: Told) -> usize {
-    let k = record(text, at, w);
-    source(text, k, w)
-}
-
-fn record_source_node(text: &mut [u8], at: usize, w: Told) -> usize {
-    let k = record_source(text, at, w);
-    node(text, k, w)
-}
-
-fn record_node(text: &mut [u8], at: usize, w: Told) -> usize {
-    let k = record(text, at, w);
-    node(text, k, w)
-}
-
-fn source_node(text: &mut [u8], at: usize, w: Told) -> usize {
-    let k = source(text, at, w);
-    node(text, k, w)
-}
-
-fn node_address(text: &mut [u8], at: usize, w: Told) -> usize {
-    let k = node(text, at, w);
-    address(text, k, w)
+    if w.kind == kind::RETIRE {
+        let k = say_number(text, at, b" shard ", bits::shard(w.address) as u64);
+        let e = say(text, k, b" at 0x");
+        return number_hex(text, e, w.address);
+    }
+    at
 }
 
 // A start's arguments.
 fn arguments(text: &mut [u8], at: usize, w: Told) -> usize {
-    let k = w.kind;
-    match k {
-        kind::RELEASE | kind::RESET => record(text, at, w),
-        kind::PROTECT => record_source(text, at, w),
-        kind::TRY | kind::TRY_PROTECT => record_source_node(text, at, w),
-        kind::RAW => record_node(text, at, w),
-        kind::SWAP => source_node(text, at, w),
-        kind::RETIRE => node_address(text, at, w),
-        _ => at,
-    }
+    let k = argument(
+        text,
+        at,
+        b"  xxxxxx     ",
+        w.kind,
+        b" record ",
+        w.rec as u64,
+    );
+    let e = argument(
+        text,
+        k,
+        b"   xxx  x    ",
+        w.kind,
+        b" source ",
+        w.source as u64,
+    );
+    let f = argument(text, e, b"    xx xxx   ", w.kind, b" node ", w.node);
+    address(text, f, w)
 }
 
 fn start(text: &mut [u8], w: Told) -> usize {

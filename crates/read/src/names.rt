@@ -22,87 +22,30 @@ pub fn place(text: &mut [u8], at: usize, p: u32) -> usize {
     nth(
         text,
         at,
-        b"step;A1;A2;A3;A4;A5;A6;N1;N2;N3;D1;D2;P1;P2;P3;V0;V1;V2;V3;Reset;Raw;Swap;T1;T2;T3;K1;K2;K3;K4;E1;E2;E3;B1;Steal;H1;H2;Examine;Reclaim;Empty;Push1;Push2;C1;C3;Wait;S1;S2;S3",
+        b"step;A1;A2;A3;A4;A5;A6;N1;N2;N3;D1;D2;P1;P2;P3;V0;V1;V2;V3;Reset;Raw;Swap;T1;T2;T3;K1;K2;\
+          K3;K4;E1;E2;E3;B1;Steal;H1;H2;Examine;Reclaim;Empty;Push1;Push2;C1;C3;Wait;S1;S2;S3",
         p,
-    )
-}
-
-// What a place of acquire is for.
-fn acquire(text: &mut [u8], at: usize, k: u32) -> usize {
-    nth(
-        text,
-        at,
-        b"look for a record;lock the list;see what is behind;take it, unlock;cut its link;check its link;take a new record;put it in the list;count the record",
-        k,
-    )
-}
-
-fn release(text: &mut [u8], at: usize, k: u32) -> usize {
-    nth(
-        text,
-        at,
-        b"clear the hazard;check its link;see the list;link to the list;put it in front",
-        k,
-    )
-}
-
-fn protect(text: &mut [u8], at: usize, k: u32) -> usize {
-    nth(
-        text,
-        at,
-        b"read the source;announce the node;read source again;changed: withdraw;clear the hazard;set the hazard;put the node in",
-        k,
-    )
-}
-
-fn retire(text: &mut [u8], at: usize, k: u32) -> usize {
-    nth(
-        text,
-        at,
-        b"see the list;put it in front;count the node;see the count;are there enough?;take the count;set next due time;is it time?;set next due time;take the count",
-        k,
-    )
-}
-
-fn reclaim(text: &mut [u8], at: usize, k: u32) -> usize {
-    nth(
-        text,
-        at,
-        b"begin to reclaim;take the list;begin the scan;scan one hazard;is it guarded?;reclaim the node;is it still empty?;see the list;put kept ones back;give the rest back;end of reclaiming;wait for others",
-        k,
-    )
-}
-
-fn shutdown(text: &mut [u8], at: usize, k: u32) -> usize {
-    nth(
-        text,
-        at,
-        b"take the list;reclaim the node;clear all records",
-        k,
     )
 }
 
 // What a place is for.
 pub fn purpose(text: &mut [u8], at: usize, p: u32) -> usize {
-    if p < place::A1 {
-        return at;
-    }
-    if p < place::D1 {
-        return acquire(text, at, p - place::A1);
-    }
-    if p < place::V0 {
-        return release(text, at, p - place::D1);
-    }
-    if p < place::T1 {
-        return protect(text, at, p - place::V0);
-    }
-    if p < place::B1 {
-        return retire(text, at, p - place::T1);
-    }
-    if p < place::S1 {
-        return reclaim(text, at, p - place::B1);
-    }
-    shutdown(text, at, p - place::S1)
+    nth(
+        text,
+        at,
+        b";look for a record;lock the list;see what is behind;take it, unlock;cut its link;check its link;\
+          take a new record;put it in the list;count the record;\
+          clear the hazard;check its link;see the list;link to the list;put it in front;\
+          read the source;announce the node;read source again;changed: withdraw;\
+          clear the hazard;set the hazard;put the node in;\
+          see the list;put it in front;count the node;\
+          see the count;are there enough?;take the count;set next due time;\
+          is it time?;set next due time;take the count;\
+          begin to reclaim;take the list;begin the scan;scan one hazard;is it guarded?;reclaim the node;\
+          is it still empty?;see the list;put kept ones back;give the rest back;end of reclaiming;\
+          wait for others;take the list;reclaim the node;clear all records",
+        p,
+    )
 }
 
 // The first of the cells below that there are several of.
@@ -150,7 +93,8 @@ fn cell(text: &mut [u8], at: usize, c: Named) -> usize {
     let e = nth(
         text,
         at,
-        b";record_head;head_available;shutdown;record_count;count;due_time;nbulk_reclaims;shard;hazard;available_next;next of record;holder;source;next of node;state of node",
+        b";record_head;head_available;shutdown;record_count;count;due_time;nbulk_reclaims;shard;\
+          hazard;available_next;next of record;holder;source;next of node;state of node",
         k,
     );
     if k < SEVERAL {

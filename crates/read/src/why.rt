@@ -128,7 +128,7 @@ fn waits(text: &mut [u8], at: usize, records: &[u32], rows32: &[u32]) -> usize {
     record(text, at, records, owned(records))
 }
 
-// What needs no number, by its place among the words.
+// What needs no number, by its place among the words; a shutdown's mark, 1 or 2, is the place of its own.
 const SIZE: u32 = 0;
 
 const STEPS: u32 = 3;
@@ -147,7 +147,9 @@ fn plainly(text: &mut [u8], at: usize, k: u32) -> usize {
     nth(
         text,
         at,
-        b"a table has a wrong size;shutdown is under way;shutdown is over;2^40 steps were taken;the thread is idle;no node to retire;nodes end at 4096;no record left;a cell is out of range",
+        b"a table has a wrong size;shutdown is under way;shutdown is over;2^40 steps were taken;\
+          the thread is idle;no node to retire;nodes end at 4096;no record left;\
+          a cell is out of range",
         k,
     )
 }
@@ -158,11 +160,6 @@ fn no_node(text: &mut [u8], at: usize, node: u64) -> usize {
         return plainly(text, at, ZERO);
     }
     plainly(text, at, NODE)
-}
-
-// 18: the shutdown's mark is 1 or 2.
-fn shut(text: &mut [u8], at: usize, mark: u32) -> usize {
-    plainly(text, at, mark)
 }
 
 // 25: the node of a swap.
@@ -185,7 +182,7 @@ fn of_start(
 ) -> usize {
     match answer {
         17 => no_such(text, at, THREAD, w.thread),
-        18 => shut(text, at, tables::id(heads, 2)),
+        18 => plainly(text, at, tables::id(heads, 2)),
         20 => inside(text, at, row),
         22 => record(text, at, records, w.rec),
         23 => no_such(text, at, SOURCE, w.source),
@@ -285,7 +282,8 @@ pub fn bad(text: &mut [u8], at: usize, bytes: &[u8], whole: bool) -> usize {
     nth(
         text,
         at,
-        b"fewer than 28 characters;more than 28 characters;wrong kind or field;not hexadecimal digits;the line has no end",
+        b"fewer than 28 characters;more than 28 characters;wrong kind or field;\
+          not hexadecimal digits;the line has no end",
         fault(bytes, whole),
     )
 }
