@@ -50,7 +50,7 @@ fn is_end(bytes: &[u8], at: usize) -> bool {
     true
 }
 
-// Whether the word of four letters stands at `at`, or the shorter one that a 0 fills up.
+// Whether the word stands at `at`, and ends there.
 fn is_word(bytes: &[u8], at: usize, word: &[u8]) -> bool {
     let mut i = 0usize;
     let mut k = at;

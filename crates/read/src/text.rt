@@ -105,14 +105,21 @@ pub fn say_number(text: &mut [u8], at: usize, words: &[u8], x: u64) -> usize {
     number(text, k, x)
 }
 
+// Where n bytes begin that end before the column `end`; at the column `at`, where they are too many for that.
+fn indent(at: usize, end: usize, n: usize) -> usize {
+    if n < end {
+        return longer(at, end - n);
+    }
+    at
+}
+
 // A number that ends before the column `end`, or begins at the column `at` where it is too long for that.
 pub fn right(text: &mut [u8], at: usize, end: usize, x: u64) -> usize {
     let mut digits = [0u8; 20];
     let n = texts::decimal(&mut digits, 0, x);
     let from = 0usize;
     let part = &digits[from..n];
-    let k = longer(at, std::num::wrapping_sub_usize(end, n));
-    say(text, shorter(k, longer(at, end)), part)
+    say(text, indent(at, end, n), part)
 }
 
 fn hex(d: u64) -> u8 {

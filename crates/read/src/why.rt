@@ -1,4 +1,5 @@
-// Why a line was refused. A refusal changes nothing, so that the tables still are what they were before the line.
+// Why a line was refused. A refusal changes nothing, so that the tables still are what they were before the line; of a
+// step that is answered 25 or 26, which ends its operation, the row as it was before says all.
 ghost use Prim.Native.Nat.{_≤_};
 use crate::names;
 use crate::text::nth;
