@@ -21,8 +21,7 @@ use Rattle.rules.specs.declared.Row.{Row}
 use Rattle.counts.specs.CountLaws.{over-plain, negative-not-over}
 use Rattle.lists.specs.Occ.{eq01, eq01-le, sum, sum-set}
 use Rattle.view.specs.View.{View}
-use Rattle.view.specs.Calm.{pick-all, pick-case}
-use Rattle.heap.specs.Stage.{pc-of-code}
+use Rattle.view.specs.Every.{pc-is, pick-all, pick-case}
 
 -- ---- what a thread owes: 1 for a node that it retires and has not counted; what it took from `count`, less what it has reclaimed since
 pub data Owe : Type 0 where
@@ -205,7 +204,7 @@ module _ (g : Settings) where
   owes-from k r = pick-all (λ (x : Row). owes x ≡ r .rcount) (eqb (stolenFrom (r .stolen) k (g .shards - k)) (g .shards)) _ _ refl refl
 
   pub owes-at : (p : Pc) (r : Row) → r .place ≡ code p → owe p ≡ taken → owes r ≡ r .rcount
-  owes-at p r e q = ap (λ (x : Pc). owesOf (owe x) (r .rcount)) (ap pcOf e ∙ pc-of-code p) ∙ ap (λ (x : Owe). owesOf x (r .rcount)) q
+  owes-at p r e q = ap (λ (x : Pc). owesOf (owe x) (r .rcount)) (pc-is p e) ∙ ap (λ (x : Owe). owesOf x (r .rcount)) q
 
   pub owes-examined : (n : ℕ) (r : Row) → r .place ≡ code Pc.Examine → owes (examined g n r) ≡ r .rcount
   unfolding examined

@@ -29,12 +29,11 @@ use Rattle.counts.specs.CountLaws.{over-plain}
 use Rattle.lists.specs.Occ.{eq01, eq01-same, eq01-other, eq01-le, sum, sum-set}
 use Rattle.view.specs.View.{View, InTable, named, get, applies, enters}
 use Rattle.view.specs.Ranges.{limit}
-use Rattle.view.specs.Calm.{pick-all, pick-case}
+use Rattle.view.specs.Every.{pc-is, pick-all, pick-case}
 use Rattle.view.specs.Long.{Long}
 use Rattle.view.specs.Rest.{all-passed, all-shut}
 use Rattle.view.specs.Turn.{rowIn, Look}
 use Rattle.view.specs.Begin.{Admitted}
-use Rattle.heap.specs.Stage.{pc-of-code}
 use Rattle.shutdown.specs.Zone.{ZoneIn, Shut, Open, side, mark-open, all-shut-rows}
 use Rattle.balance.specs.Balance
 use Rattle.balance.specs.Balance.{Owe, owe, owesOf, owes, waiting, M, Balance, LooksOf, Looks, Low, CountAt, CountIn, over-none, owes-passed, owes-checked, owes-emptied, owes-from, owes-examined, owes-reclaimed}
@@ -65,7 +64,7 @@ module _ (g : Settings) (v : View) (I : CountIn g v) (Z : ZoneIn v) (lv : Long v
   K p e = CountIn g (applies t (named (accesses p r)) e v)
 
   is : (p : Pc) (x : Row) → x .place ≡ code p → pcOf (x .place) ≡ p
-  is p x e = ap pcOf e ∙ pc-of-code p
+  is p x e = pc-is p e
 
   owes-is : (p : Pc) → r .place ≡ code p → owes r ≡ owesOf (owe p) (r .rcount)
   owes-is p e = ap (λ (q : Pc). owesOf (owe q) (r .rcount)) (is p r e)

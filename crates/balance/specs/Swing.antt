@@ -24,10 +24,9 @@ use Rattle.rules.specs.declared.Effect.{Effect}
 use Rattle.rules.specs.declared.Named.the-variants as cell
 use Rattle.lists.specs.Occ.{sum, sum-set}
 use Rattle.view.specs.View.{View, named, applies, enters}
-use Rattle.view.specs.Calm.{pick-all, pick-case}
+use Rattle.view.specs.Every.{pc-is, pick-all, pick-case}
 use Rattle.view.specs.Rest.{all-passed, all-checked, all-emptied, all-from, all-examined, all-reclaimed, all-shut}
 use Rattle.view.specs.Turn.{rowIn, Look}
-use Rattle.heap.specs.Stage.{pc-of-code}
 use Rattle.balance.specs.Balance.{Owe, owe, M}
 
 -- the distance from 0 of a word that is read as a signed number
@@ -124,7 +123,7 @@ module _ (g : Settings) (v : View) (I : SwingIn v) (t : ℕ) (ht : t < length (v
     sit n x h = let s = sum-set swing (v .rows) t x idle ht in let a = I in omega arith
 
     held : (p : Pc) (x : Row) → x .place ≡ code p → swing x ≡ swingOf (owe p) (x .rcount)
-    held p x e = ap (λ (q : Pc). swingOf (owe q) (x .rcount)) (ap pcOf e ∙ pc-of-code p)
+    held p x e = ap (λ (q : Pc). swingOf (owe q) (x .rcount)) (pc-is p e)
 
     pub swing-ends : (m : ℕ) → SwingIn (applies t cell.Nothing (ends m) v)
     swing-ends m = sit c idle (omega arith)

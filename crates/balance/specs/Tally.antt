@@ -26,11 +26,10 @@ use Rattle.rules.specs.declared.Named.the-variants as cell
 use Rattle.lists.specs.Occ.{sum, sum-set, sum-at}
 use Rattle.lists.specs.Each.{each-set}
 use Rattle.view.specs.View.{View, named, applies, enters}
-use Rattle.view.specs.Calm.{pick-all, pick-case}
+use Rattle.view.specs.Every.{pc-is, pick-all, pick-case}
 use Rattle.view.specs.Rest.{all-from, all-examined, all-reclaimed, all-shut}
 use Rattle.view.specs.Turn.{rowIn, Look}
 use Rattle.view.specs.Begin.{Admitted}
-use Rattle.heap.specs.Stage.{pc-of-code}
 
 -- ---- a Check is inside a pass where the row has a `done`
 pub data Bulk : Type 0 where
@@ -185,7 +184,7 @@ module _ (g : Settings) (v : View) (I : TallyIn v) (hl : length (v .rows) ≡ th
   K p e = TallyIn (applies t (named (accesses p r)) e v)
 
   is : (p : Pc) (x : Row) → x .place ≡ code p → pcOf (x .place) ≡ p
-  is p x e = ap pcOf e ∙ pc-of-code p
+  is p x e = pc-is p e
 
   inside-is : (p : Pc) (x : Row) → x .place ≡ code p → inside x ≡ insideOf (bulk p) (x .done)
   inside-is p x e = ap (λ (q : Pc). insideOf (bulk q) (x .done)) (is p x e)

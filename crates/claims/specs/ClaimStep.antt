@@ -36,13 +36,13 @@ use Rattle.lists.specs.Each.{each-set}
 use Rattle.view.specs.Field.{IsId, cleared}
 use Rattle.view.specs.Ranges.{limit}
 use Rattle.view.specs.View.{View, InTable, named, get, applies, enters}
-use Rattle.view.specs.Calm.{pick-all, pick-case}
+use Rattle.view.specs.Every.{pc-is, pick-all, pick-case}
 use Rattle.view.specs.Long.{Long}
 use Rattle.view.specs.Rest.{all-passed, all-checked, all-emptied, all-from, all-examined, all-reclaimed, all-shut}
 use Rattle.view.specs.Turn.{rowIn, Look, sees}
 use Rattle.view.specs.Begin.{Admitted, Owned}
 use Rattle.heap.specs.Hooks.{hooks, slot, alone, slot-slot, loose, hv, toReclaim, slot-in, get-slot, loose-tight, get-stolen, get-reclaim}
-use Rattle.heap.specs.Stage.{pc-of-code, Allowed, HeapIn, Others, others-none, others-one, shape-eight, stage}
+use Rattle.heap.specs.Stage.{Allowed, HeapIn, Others, others-none, others-one, shape-eight, stage}
 use Rattle.heap.specs.HeapStep.{Next, grabs, gains, begunLists}
 use Rattle.records.specs.Hold
 use Rattle.records.specs.Hold.{Hold, hold, has, hasOf, off, offOf, used, KnowOf, RecordsIn}
@@ -298,7 +298,7 @@ module _ (g : Settings) (v : View) (ls : List (List ℕ)) (H : HeapIn g v ls) (R
   K p i e = (N : Next g v ls t p i (applies t (named (accesses p r)) e v)) → ClaimsIn (applies t (named (accesses p r)) e v) (marks p r e cl) (N .lists)
 
   is : (p : Pc) (x : Row) → x .place ≡ code p → pcOf (x .place) ≡ p
-  is p x e = ap pcOf e ∙ pc-of-code p
+  is p x e = pc-is p e
 
   -- a thread at another place than D1
   not-D1 : (p : Pc) → r .place ≡ code p → code p ≢ code Pc.D1 → pcOf (r .place) ≢ Pc.D1

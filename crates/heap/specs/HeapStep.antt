@@ -37,11 +37,11 @@ use Rattle.lists.specs.Heap
 use Rattle.lists.specs.Heap.{Heap, waits}
 use Rattle.view.specs.View.{View, InTable, named, get, applies}
 use Rattle.view.specs.Ranges.{limit}
-use Rattle.view.specs.Calm.{pick-all, pick-case}
+use Rattle.view.specs.Every.{pc-is, pick-all, pick-case}
 use Rattle.view.specs.Turn.{rowIn, Look, sees}
 use Rattle.heap.specs.Hooks.{hooks, slot, loose, hv, toReclaim, toKeep, alone, slot-slot, slot-shard, shard-in, hook-stolen, hook-reclaim, hook-keep, hook-alone, get-stolen, get-reclaim, get-keep, get-alone}
 use Rattle.heap.specs.Stage
-use Rattle.heap.specs.Stage.{Stage, stage, pc-of-code, Allowed, null, some, any, ShapeAt, Is, ShapeOf, Shape, EndsAt, Ends, HeapAt, HeapIn, Others, others-none, others-one, others-two}
+use Rattle.heap.specs.Stage.{Stage, stage, Allowed, null, some, any, ShapeAt, Is, ShapeOf, Shape, EndsAt, Ends, HeapAt, HeapIn, Others, others-none, others-one, others-two}
 use Rattle.heap.specs.Moves
 use Rattle.heap.specs.Moves.{Moved, Freed}
 use Rattle.heap.specs.Onward.{Seated, found, shaped, seat-passed, seat-checked, seat-shut, seat-emptied, seat-from, seat-examined, seat-reclaimed, idle-hooks, idle-clean}
@@ -96,7 +96,7 @@ module _ (g : Settings) (A : Allowed g) (v : View) (ls : List (List ℕ)) (I : H
   K p i e = Next g v ls t p i (applies t (named (accesses p r)) e v)
 
   shape : (p : Pc) → r .place ≡ code p → ShapeOf g (stage p) r
-  shape p e = subst (λ (q : Pc). ShapeOf g (stage q) r) (ap pcOf e ∙ pc-of-code p) (I .shape t ht)
+  shape p e = subst (λ (q : Pc). ShapeOf g (stage q) r) (pc-is p e) (I .shape t ht)
 
   -- ---- where no list changes
   still : {p : Pc} {i : Seen} {v′ : View} → HeapIn g v′ ls → Next g v ls t p i v′

@@ -18,10 +18,10 @@ use Rattle.rules.specs.Rows.{idle, goTo, inShard, shardIn, stolenFrom}
 use Rattle.rules.specs.Places.{newPass, checked, passed, emptied, examineAt, examineFrom, examined, reclaimed, shutNext}
 use Rattle.rules.specs.declared.Row.{Row}
 use Rattle.lists.specs.Tab.{zeros}
-use Rattle.view.specs.Calm.{pick-all, pick-case}
+use Rattle.view.specs.Every.{pc-is, pick-all, pick-case}
 use Rattle.heap.specs.Hooks.{hooks}
 use Rattle.heap.specs.Stage
-use Rattle.heap.specs.Stage.{Stage, stage, pc-of-code, Allowed, Want, null, some, any, Holds, ShapeAt, Is, ShapeOf, Shape}
+use Rattle.heap.specs.Stage.{Stage, stage, Allowed, Want, null, some, any, Holds, ShapeAt, Is, ShapeOf, Shape}
 
 -- the row x holds r's lists, and is as its place asks
 pub record Seated (g : Settings) (r x : Row) : Type 0 where
@@ -62,7 +62,7 @@ module _ (g : Settings) (A : Allowed g) where
 
   -- a row's shape by its place
   pub shaped : (p : Pc) (x : Row) → x .place ≡ code p → ShapeOf g (stage p) x → Shape g x
-  shaped p x e s = subst (λ (q : Pc). ShapeOf g (stage q) x) (sym (ap pcOf e ∙ pc-of-code p)) s
+  shaped p x e s = subst (λ (q : Pc). ShapeOf g (stage q) x) (sym (pc-is p e)) s
 
   abbrev Clean : Row → Type 0
   Clean r = ShapeOf g Stage.clean r

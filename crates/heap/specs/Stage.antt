@@ -76,56 +76,6 @@ stage Pc.S2 = frees
 stage Pc.S3 = clean
 stage Pc.Unknown = clean
 
-pub pc-of-code : (p : Pc) → pcOf (code p) ≡ p
-pc-of-code Pc.Idle = refl
-pc-of-code Pc.A1 = refl
-pc-of-code Pc.A2 = refl
-pc-of-code Pc.A3 = refl
-pc-of-code Pc.A4 = refl
-pc-of-code Pc.A5 = refl
-pc-of-code Pc.A6 = refl
-pc-of-code Pc.N1 = refl
-pc-of-code Pc.N2 = refl
-pc-of-code Pc.N3 = refl
-pc-of-code Pc.D1 = refl
-pc-of-code Pc.D2 = refl
-pc-of-code Pc.P1 = refl
-pc-of-code Pc.P2 = refl
-pc-of-code Pc.P3 = refl
-pc-of-code Pc.V0 = refl
-pc-of-code Pc.V1 = refl
-pc-of-code Pc.V2 = refl
-pc-of-code Pc.V3 = refl
-pc-of-code Pc.Reset = refl
-pc-of-code Pc.Raw = refl
-pc-of-code Pc.Swap = refl
-pc-of-code Pc.T1 = refl
-pc-of-code Pc.T2 = refl
-pc-of-code Pc.T3 = refl
-pc-of-code Pc.K1 = refl
-pc-of-code Pc.K2 = refl
-pc-of-code Pc.K3 = refl
-pc-of-code Pc.K4 = refl
-pc-of-code Pc.E1 = refl
-pc-of-code Pc.E2 = refl
-pc-of-code Pc.E3 = refl
-pc-of-code Pc.B1 = refl
-pc-of-code Pc.Steal = refl
-pc-of-code Pc.H1 = refl
-pc-of-code Pc.H2 = refl
-pc-of-code Pc.Examine = refl
-pc-of-code Pc.Reclaim = refl
-pc-of-code Pc.Empty = refl
-pc-of-code Pc.Push1 = refl
-pc-of-code Pc.Push2 = refl
-pc-of-code Pc.C1 = refl
-pc-of-code Pc.C3 = refl
-pc-of-code Pc.Wait = refl
-pc-of-code Pc.S1 = refl
-pc-of-code Pc.S2 = refl
-pc-of-code Pc.S3 = refl
-pc-of-code Pc.Unknown = refl
-
 -- ---- what the row holds: no list, some list, or any
 pub data Want : Type 0 where
   null some any : Want

@@ -29,6 +29,7 @@ use Rattle.rules.specs.declared.Named.the-variants as cell
 use Rattle.bits.specs.BitLaws.{shard-below}
 use Rattle.lists.specs.Occ.{eq01, eq01-same, eq01-other, sum}
 use Rattle.lists.specs.Heap.{waits}
+use Rattle.view.specs.Every.{pc-is}
 use Rattle.view.specs.View.{View, viewOf, named, applies, enters}
 use Rattle.view.specs.Given.{Sized, guard-words}
 use Rattle.view.specs.Long.{Long, long}
@@ -36,7 +37,7 @@ use Rattle.view.specs.Turn
 use Rattle.view.specs.Turn.{Turn, Look, rowIn, row-view, step-turn}
 use Rattle.view.specs.Begin
 use Rattle.view.specs.Begin.{Begin, Admitted, start-begin}
-use Rattle.heap.specs.Stage.{Allowed, HeapIn, pc-of-code}
+use Rattle.heap.specs.Stage.{Allowed, HeapIn}
 use Rattle.heap.specs.HeapStep.{Next, heap-place, heap-ends, heap-begin, begunLists}
 use Rattle.records.specs.Hold
 use Rattle.records.specs.Hold.{Hold, hold, RecordsIn}
@@ -144,7 +145,7 @@ module _ (g : Settings) (C : Chosen g) (s : State) (h : List Event) (I : Inv g s
       zone = zone-place g v (A .zone) t (inside t ht) p i l;
       count = count-place g v (A .count) (A .zone) (long s) t (inside t ht) (l .early) p i l w;
       tally = tally-place g v (A .tally) (long s .rows) t (inside t ht) p i l;
-      total = total-place g v (A .total) t (inside t ht) (l .early) p i l;
+      total = total-place g v (A .total) t (inside t ht) (l .early) p i;
       swing = swing-place g v (A .swing) t (inside t ht) (l .early) p i l;
       claim = subst (λ (c : List ℕ). ClaimsIn v′ c (N .lists)) (sym (T .claim)) (claim-place g v (A .lists) (A .heap) (A .records) (A .zone) (claims h) (A .claim) (long s) t (inside t ht) gw p i l N);
       ranges = range-place g (C .allowed) v (A .lists) (A .heap) (A .records) (claims h) (A .claim) (A .ranges) (long s .rows) t ht p i l;
@@ -182,7 +183,7 @@ module _ (g : Settings) (C : Chosen g) (s : State) (h : List Event) (I : Inv g s
   step-inv t o (Turn.takes p i ht l a e z) = seen-row t o ht (record {
     sized = z;
     at = subst (λ (x : View). InvAt g x (eventBy (pcOf (rowIn v t .place)) (rowIn v t) (o .answer) ∷ h)) (sym e)
-        (subst (λ (x : Event). InvAt g (applies t (named (accesses p (rowIn v t))) (does g p (rowIn v t) i) v) (x ∷ h)) (sym (λ j. eventBy ((ap pcOf (l .place) ∙ pc-of-code p) j) (rowIn v t) (a j))) (taken t ht p i l));
+        (subst (λ (x : Event). InvAt g (applies t (named (accesses p (rowIn v t))) (does g p (rowIn v t) i) v) (x ∷ h)) (sym (λ j. eventBy ((pc-is p (l .place)) j) (rowIn v t) (a j))) (taken t ht p i l));
   })
 
   -- ---- a start

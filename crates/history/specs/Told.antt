@@ -27,7 +27,7 @@ use Rattle.lists.specs.Occ.{eq01, eq01-same, eq01-other}
 use Rattle.lists.specs.Heap.{waits}
 use Rattle.view.specs.View.{View, InTable, named, get, applies}
 use Rattle.view.specs.Ranges.{limit}
-use Rattle.view.specs.Calm.{pick-all, pick-case}
+use Rattle.view.specs.Every.{pick-all, pick-case}
 use Rattle.view.specs.Long.{Long}
 use Rattle.view.specs.Turn.{rowIn, Look}
 use Rattle.claims.specs.ClaimStep.{marks}

@@ -19,7 +19,7 @@ use Rattle.view.specs.Field.{IsId}
 use Rattle.view.specs.View.{View, InTable, get, named}
 use Rattle.view.specs.Written.{plain}
 use Rattle.view.specs.Ranges.{limit}
-use Rattle.view.specs.Calm.{pick-all, pick-case}
+use Rattle.view.specs.Every.{pick-all, pick-case}
 use Rattle.view.specs.Turn.{beside}
 use Rattle.heap.specs.Stage.{Allowed, ShapeOf, stage}
 use Rattle.records.specs.Hold.{KnowOf, hold}

@@ -23,7 +23,7 @@ use Rattle.lists.specs.Tab.{zeros}
 use Rattle.view.specs.Field.{cleared}
 use Rattle.view.specs.View.{View, put, tick, shut, seat, applies, enters}
 use Rattle.view.specs.Ranges.{limit}
-use Rattle.view.specs.Calm.{pick-all}
+use Rattle.view.specs.Every.{pick-all}
 
 -- ---- rows
 -- 1 where the place uses the row's source: V0 to V3 and a swap

@@ -22,11 +22,12 @@ use Rattle.rules.specs.declared.Entry.{Entry}
 use Rattle.rules.specs.declared.Named.the-variants as cell
 use Rattle.lists.specs.Occ.{sum}
 use Rattle.lists.specs.Tab.{zeros}
+use Rattle.view.specs.Every.{pc-is}
 use Rattle.view.specs.View.{View, named, applies, enters}
 use Rattle.view.specs.Ranges.{limit}
 use Rattle.view.specs.Turn.{rowIn, Look, seen-of, Whole, InRange}
 use Rattle.view.specs.Begin.{Admitted}
-use Rattle.heap.specs.Stage.{Allowed, HeapIn, ShapeOf, stage, pc-of-code}
+use Rattle.heap.specs.Stage.{Allowed, HeapIn, ShapeOf, stage}
 use Rattle.records.specs.Hold
 use Rattle.records.specs.Hold.{Hold, hold, lockOf, lock, KnowOf, RecordsIn}
 use Rattle.claims.specs.Claim.{ClaimsIn, SafeOf, scan}
@@ -72,7 +73,7 @@ module _ (g : Settings) (A : Allowed g) (v : View) (ls : List (List ℕ)) (H : H
     inside = rw hl ht
 
     is : (p : Pc) → r .place ≡ code p → pcOf (r .place) ≡ p
-    is p e = ap pcOf e ∙ pc-of-code p
+    is p e = pc-is p e
 
     known : r .place ≢ 0 → Known g v t r
     known nz = record {

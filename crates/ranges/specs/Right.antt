@@ -22,7 +22,7 @@ use Rattle.lists.specs.Tab.{zeros}
 use Rattle.view.specs.Field.{IsId}
 use Rattle.view.specs.View.{View, InTable, named}
 use Rattle.view.specs.Ranges.{limit}
-use Rattle.view.specs.Calm.{pick-all, pick-case}
+use Rattle.view.specs.Every.{pick-all, pick-case}
 use Rattle.view.specs.Rest.{all-passed, all-checked, all-emptied}
 use Rattle.view.specs.Turn.{beside, Sees, Fine}
 use Rattle.heap.specs.Onward.{found}

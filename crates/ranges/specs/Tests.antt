@@ -17,7 +17,7 @@ use Rattle.rules.specs.declared.Access.{Access}
 use Rattle.rules.specs.declared.Access.the-variants as by
 use Rattle.view.specs.View.{View, InTable, get, named}
 use Rattle.view.specs.Written.{plain, address-in}
-use Rattle.view.specs.Calm.{pick-case}
+use Rattle.view.specs.Every.{pick-case}
 use Rattle.view.specs.Turn.{InRange}
 use Rattle.ranges.specs.Range.{Fit}
 use Rattle.ranges.specs.Names.{Held}

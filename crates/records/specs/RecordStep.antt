@@ -32,11 +32,10 @@ use Rattle.lists.specs.Each.{each-set}
 use Rattle.view.specs.Field.{IsId, cleared}
 use Rattle.view.specs.Ranges.{limit}
 use Rattle.view.specs.View.{View, InTable, named, get, applies, enters}
-use Rattle.view.specs.Calm.{pick-all, pick-case}
+use Rattle.view.specs.Every.{pc-is, pick-all, pick-case}
 use Rattle.view.specs.Rest.{all-passed, all-checked, all-emptied, all-from, all-examined, all-reclaimed, all-shut}
 use Rattle.view.specs.Turn.{rowIn, Look, sees}
 use Rattle.view.specs.Begin.{Admitted, Owned}
-use Rattle.heap.specs.Stage.{pc-of-code}
 use Rattle.records.specs.Hold
 use Rattle.records.specs.Hold.{Hold, hold, hasOf, has, lockOf, lock, offOf, off, used, own, KnowOf, Know, RecordsAt, RecordsIn}
 use Rattle.records.specs.RecordMoves
@@ -71,7 +70,7 @@ module _ (g : Settings) (v : View) (I : RecordsIn v) (t : ℕ) (ht : t < length 
   Sit x = RecordsAt ha head avn next ho (set rows t x)
 
   is : (p : Pc) (x : Row) → x .place ≡ code p → pcOf (x .place) ≡ p
-  is p x e = ap pcOf e ∙ pc-of-code p
+  is p x e = pc-is p e
 
   has-is : (p : Pc) (x : Row) → x .place ≡ code p → (n : ℕ) → has n x ≡ hasOf (hold p) n (x .rec)
   has-is p x e n = ap (λ (q : Pc). hasOf (hold q) n (x .rec)) (is p x e)

@@ -24,11 +24,10 @@ use Rattle.rules.specs.declared.Effect.{Effect}
 use Rattle.rules.specs.declared.Named.the-variants as cell
 use Rattle.lists.specs.Each.{each-set}
 use Rattle.view.specs.View.{View, named, applies, enters}
-use Rattle.view.specs.Calm.{pick-all}
+use Rattle.view.specs.Every.{pc-is, pick-all}
 use Rattle.view.specs.Rest.{all-passed, all-checked, all-emptied, all-from, all-examined, all-reclaimed, all-shut}
 use Rattle.view.specs.Turn.{rowIn, Look}
 use Rattle.view.specs.Begin.{Admitted}
-use Rattle.heap.specs.Stage.{pc-of-code}
 use Rattle.records.specs.Hold
 use Rattle.records.specs.Hold.{Hold, hold}
 
@@ -169,7 +168,7 @@ module _ (g : Settings) (v : View) (I : ZoneIn v) (t : ℕ) (ht : t < length (v 
   Sit x = Zone (v .heads .mark) (set (v .rows) t x)
 
   is : (p : Pc) → r .place ≡ code p → pcOf (r .place) ≡ p
-  is p e = ap pcOf e ∙ pc-of-code p
+  is p e = pc-is p e
 
   -- a place outside shutdown: there is none, and none begins
   goes : (p : Pc) → r .place ≡ code p → (Shut (side p) → ⊥) → (x : Row) → OpenRow x → Sit x

@@ -32,7 +32,8 @@ use Rattle.view.specs.View.{View, viewOf, InTable, get, enters}
 use Rattle.view.specs.Written.{Fits}
 use Rattle.view.specs.Given.{Sized, sized-of, sizes-of, view-entered, sized-entered}
 use Rattle.view.specs.Ranges.{not-first}
-use Rattle.view.specs.Calm.{Eight, pick-all, pick-case}
+use Rattle.view.specs.Calm.{Eight}
+use Rattle.view.specs.Every.{pick-all, pick-case}
 use Rattle.view.specs.Turn.{rowIn, row-view, Fine}
 
 -- ---- what the checks of a start leave
@@ -272,18 +273,18 @@ entry-reach g v t Shutdown h = tt
 
 entry-fits : (g : Settings) (o : Operation) → Fits (begins g o .cell) (begins g o .put)
 unfolding begins
-entry-fits g Acquire e = omega arith
-entry-fits g (Release a) e = omega arith
-entry-fits g (Protect a b) e = omega arith
-entry-fits g (Try a b n) e = omega arith
-entry-fits g (TryProtect a b n) e = omega arith
-entry-fits g (Reset a) e = omega arith
-entry-fits g (Raw a n) e = omega arith
-entry-fits g (Swap b n) e = omega arith
-entry-fits g (Retire n x) e = omega arith
-entry-fits g Eager e = omega arith
-entry-fits g Cleanup e = omega arith
-entry-fits g Shutdown e = omega arith
+entry-fits g Acquire = omega arith
+entry-fits g (Release a) = omega arith
+entry-fits g (Protect a b) = omega arith
+entry-fits g (Try a b n) = omega arith
+entry-fits g (TryProtect a b n) = omega arith
+entry-fits g (Reset a) = omega arith
+entry-fits g (Raw a n) = omega arith
+entry-fits g (Swap b n) = omega arith
+entry-fits g (Retire n x) = omega arith
+entry-fits g Eager = omega arith
+entry-fits g Cleanup = omega arith
+entry-fits g Shutdown = omega arith
 
 entry-eight : (g : Settings) (o : Operation) → Eight (begins g o .row)
 unfolding begins

@@ -94,7 +94,7 @@ module _ (s : Shared) (z : SizedCells s) (rs : List Row) (q : List (List ℕ)) w
   access-view : (a : Access) (w : Bool) (x : ℕ) → (w ≡ true → InTable (named a)) → (w ≡ true → Fits (named a) x) → view (written s (cellIf (accessed a) w) x) rs q ≡ putIf w (named a) x (view s rs q)
   unfolding address
   access-view a true x h f = ap (λ (t : Shared). view t rs q) (access-written s a x) ∙ written-view s z rs q x (named a) (h refl) (f refl)
-  access-view a false x h f = written-view s z rs q x cell.Nothing tt (λ e. absurd (let k : _≡_ {A = ℕ} 0 1 = cc in omega arith))
+  access-view a false x h f = written-view s z rs q x cell.Nothing tt tt
 
   closed-view : (b : Bool) → view (closed s b) rs q ≡ shutIf b (view s rs q)
   closed-view false = refl

@@ -1,3 +1,4 @@
+pub mod Every
 pub mod Field
 pub mod View
 pub mod Written

@@ -7,7 +7,7 @@ use Rattle.rules.specs.Pc
 use Rattle.rules.specs.Rows.{goTo, inShard, shardIn, stolenFrom}
 use Rattle.rules.specs.Places.{newPass, checked, passed, emptied, examineFrom, examined, reclaimed, shutNext}
 use Rattle.rules.specs.declared.Row.{Row}
-use Rattle.view.specs.Calm.{pick-all}
+use Rattle.view.specs.Every.{pick-all}
 
 module _ (P : Row → Type 0) (g : Settings) where
   pub all-passed : (r : Row) → P (goTo Pc.K1 r) → P (goTo Pc.C1 r) → P (passed r)

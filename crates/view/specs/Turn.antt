@@ -32,7 +32,8 @@ use Rattle.view.specs.View.{View, view, viewOf, rowsIn, guardsIn, named,
 use Rattle.view.specs.Written.{narrow, fetched-view}
 use Rattle.view.specs.Given.{Sized, Sound, sized-of, sizes-of, view-given, sized-given, guards-get}
 use Rattle.view.specs.Ranges.{Reads, limit, limit-narrow, reached, is-cell, access-reached, read-limit, in-limit, Small, small-of, code-of, not-first}
-use Rattle.view.specs.Calm.{Eight, Calm, calm, Ended, Plain, numbered, pick-all, pick-case}
+use Rattle.view.specs.Calm.{Eight, Calm, calm, Ended, Plain, numbered}
+use Rattle.view.specs.Every.{pick-all, pick-case}
 
 abbrev pub rowIn : View → ℕ → Row
 rowIn v t = getD (v .rows) t idle
@@ -234,7 +235,7 @@ module _ (g : Settings) (s : State) (z : Sized s) (t : ℕ) (ht : t < threads) (
   taken : (o : Out) → Took R e o
   taken o = subst (λ (r : Row). Took r (does g p r i) o) (row-view s t ht) (λ k a q w. takes p i ht k a q w)
 
-  sound : Calm (named (accesses p R)) e → (e .writes ≡ true → InTable (named (accesses p R))) → InTable (e .also) → Sound (accesses p R) e
+  sound : Calm g R i p e → (e .writes ≡ true → InTable (named (accesses p R))) → InTable (e .also) → Sound (accesses p R) e
   sound k a b = record { reach = a; put = λ _. k .put; also = b; to = k .to; stolen = k .stolen }
 
   where-is : (p ≡ Pc.N1) ⊎ (p ≡ Pc.Swap) → (pcOf (rowIn (viewOf s) t .place) ≡ Pc.N1) ⊎ (pcOf (rowIn (viewOf s) t .place) ≡ Pc.Swap)
@@ -248,11 +249,11 @@ module _ (g : Settings) (s : State) (z : Sized s) (t : ℕ) (ht : t < threads) (
   stopped b n w (inl q) = subst (λ (m : ℕ). Turn g s t (takeBy s t c (judge R b (ends m)))) (sym q) (stops 25 (inl refl) (where-is w) soon ht refl (view-given s z t ht (accesses p R) (ends 25) quiet) (sized-given s z t ht (accesses p R) (ends 25) quiet))
     where
       quiet : Sound (accesses p R) (ends 25)
-      quiet = record { reach = λ x. absurd (false≢true x); put = λ x. absurd (false≢true x); also = tt; to = λ _. omega arith; stolen = refl }
+      quiet = record { reach = λ x. absurd (false≢true x); put = λ x. absurd (false≢true x); also = tt; to = tt; stolen = refl }
   stopped b n w (inr q) = subst (λ (m : ℕ). Turn g s t (takeBy s t c (judge R b (ends m)))) (sym q) (stops 26 (inr refl) (where-is w) soon ht refl (view-given s z t ht (accesses p R) (ends 26) quiet) (sized-given s z t ht (accesses p R) (ends 26) quiet))
     where
       quiet : Sound (accesses p R) (ends 26)
-      quiet = record { reach = λ x. absurd (false≢true x); put = λ x. absurd (false≢true x); also = tt; to = λ _. omega arith; stolen = refl }
+      quiet = record { reach = λ x. absurd (false≢true x); put = λ x. absurd (false≢true x); also = tt; to = tt; stolen = refl }
 
   -- neither 25 nor 26: what is judged is judged by its fitting
   judge-plain : (b : Bool) (d : Effect) → Plain d → judge R b d ≡ pick b d (damaged R)
@@ -270,7 +271,7 @@ module _ (g : Settings) (s : State) (z : Sized s) (t : ℕ) (ht : t < threads) (
 
   judging : (b : Bool) → fits ≡ b → Turn g s t (takeBy s t c (judge R b e))
   unfolding Ended
-  judging b h = go (numbered g p R i)
+  judging b h = go (numbered g R i p .number)
     where
       go : Ended p e ⊎ Plain e → Turn g s t (takeBy s t c (judge R b e))
       go (inl q) = subst (λ (d : Effect). Turn g s t (takeBy s t c (judge R b d))) (sym (q .1)) (stopped b (q .0) (q .3) (q .2))

@@ -120,8 +120,12 @@ narrow (cell.NodeNext n) = true
 narrow (cell.NodeState n) = true
 
 -- what is put into the cell fits it
+abbrev pub FitsIn : Bool → ℕ → Type 0
+FitsIn true x = x < 2 ^ 32
+FitsIn false x = Unit {0}
+
 abbrev pub Fits : Named → ℕ → Type 0
-Fits c x = narrow c ≡ true → x < 2 ^ 32
+Fits c x = FitsIn (narrow c) x
 
 module _ (s : Shared) (z : SizedCells s) (rs : List Row) (q : List (List ℕ)) (x : ℕ) where
   abbrev seen : List ℕ → List ℕ → List ℕ → List ℕ → List ℕ → View
@@ -192,8 +196,8 @@ module _ (s : Shared) (z : SizedCells s) (rs : List Row) (q : List (List ℕ)) (
   cut-fits : (c : Named) → Fits c x → cut c ≡ x
   cut-fits c = go (narrow c)
     where
-      go : (b : Bool) → (b ≡ true → x < 2 ^ 32) → pick b y x ≡ x
-      go true h = let q = h refl in omega arith
+      go : (b : Bool) → FitsIn b x → pick b y x ≡ x
+      go true h = omega arith
       go false h = refl
 
   written-plain : (c : Named) → InTable c → view (written s (plain c) x) rs q ≡ put c (cut c) (view s rs q)
