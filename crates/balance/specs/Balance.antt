@@ -21,66 +21,25 @@ use Rattle.rules.specs.declared.Row.{Row}
 use Rattle.counts.specs.CountLaws.{over-plain, negative-not-over}
 use Rattle.lists.specs.Occ.{eq01, eq01-le, sum, sum-set}
 use Rattle.view.specs.View.{View}
-use Rattle.view.specs.Every.{pc-is, pick-all, pick-case}
+use Rattle.view.specs.Every.{pc-is, classed, pick-all, pick-case}
 
--- ---- what a thread owes: 1 for a node that it retires and has not counted; what it took from `count`, less what it has reclaimed since
+-- ---- what a thread owes: 1 for a node that it retires and has not counted; what it took from `count`, less what it has reclaimed since.
+-- A thread at K1 or K3 owes nothing and will look at the count again, and so will one at K2, if the count is still what it saw
 pub data Owe : Type 0 where
-  nothing one taken : Owe
+  nothing one taken looking saw : Owe
 
 abbrev pub owe : Pc → Owe
-owe Pc.Idle = nothing
-owe Pc.A1 = nothing
-owe Pc.A2 = nothing
-owe Pc.A3 = nothing
-owe Pc.A4 = nothing
-owe Pc.A5 = nothing
-owe Pc.A6 = nothing
-owe Pc.N1 = nothing
-owe Pc.N2 = nothing
-owe Pc.N3 = nothing
-owe Pc.D1 = nothing
-owe Pc.D2 = nothing
-owe Pc.P1 = nothing
-owe Pc.P2 = nothing
-owe Pc.P3 = nothing
-owe Pc.V0 = nothing
-owe Pc.V1 = nothing
-owe Pc.V2 = nothing
-owe Pc.V3 = nothing
-owe Pc.Reset = nothing
-owe Pc.Raw = nothing
-owe Pc.Swap = nothing
-owe Pc.T1 = one
-owe Pc.T2 = one
-owe Pc.T3 = one
-owe Pc.K1 = nothing
-owe Pc.K2 = nothing
-owe Pc.K3 = nothing
-owe Pc.K4 = taken
-owe Pc.E1 = nothing
-owe Pc.E2 = nothing
-owe Pc.E3 = nothing
-owe Pc.B1 = taken
-owe Pc.Steal = taken
-owe Pc.H1 = taken
-owe Pc.H2 = taken
-owe Pc.Examine = taken
-owe Pc.Reclaim = taken
-owe Pc.Empty = taken
-owe Pc.Push1 = taken
-owe Pc.Push2 = taken
-owe Pc.C1 = taken
-owe Pc.C3 = nothing
-owe Pc.Wait = nothing
-owe Pc.S1 = nothing
-owe Pc.S2 = nothing
-owe Pc.S3 = nothing
-owe Pc.Unknown = nothing
+owe =
+    classed nothing
+    ((Pc.T1, one) ∷ (Pc.T2, one) ∷ (Pc.T3, one) ∷ (Pc.K1, looking) ∷ (Pc.K2, saw) ∷ (Pc.K3, looking) ∷ (Pc.K4, taken) ∷ (Pc.B1, taken) ∷ (Pc.Steal, taken) ∷ (Pc.H1, taken) ∷ (Pc.H2, taken)
+    ∷ (Pc.Examine, taken) ∷ (Pc.Reclaim, taken) ∷ (Pc.Empty, taken) ∷ (Pc.Push1, taken) ∷ (Pc.Push2, taken) ∷ (Pc.C1, taken) ∷ [])
 
 abbrev pub owesOf : Owe → ℕ → ℕ
 owesOf nothing rcount = 0
 owesOf one rcount = 1
 owesOf taken rcount = rcount
+owesOf looking rcount = 0
+owesOf saw rcount = 0
 
 abbrev pub owes : Row → ℕ
 owes r = owesOf (owe (pcOf (r .place))) (r .rcount)
@@ -99,58 +58,15 @@ pub record Balance (st : List ℕ) (count : ℕ) (rows : List Row) : Type 0 wher
   pub bal : count + sum owes rows + a * M ≡ waiting st + b * M
 
 -- ---- a thread that will look at the count c
-abbrev pub LooksOf : Pc → ℕ → ℕ → Type 0
-LooksOf Pc.Idle c saw = ⊥
-LooksOf Pc.A1 c saw = ⊥
-LooksOf Pc.A2 c saw = ⊥
-LooksOf Pc.A3 c saw = ⊥
-LooksOf Pc.A4 c saw = ⊥
-LooksOf Pc.A5 c saw = ⊥
-LooksOf Pc.A6 c saw = ⊥
-LooksOf Pc.N1 c saw = ⊥
-LooksOf Pc.N2 c saw = ⊥
-LooksOf Pc.N3 c saw = ⊥
-LooksOf Pc.D1 c saw = ⊥
-LooksOf Pc.D2 c saw = ⊥
-LooksOf Pc.P1 c saw = ⊥
-LooksOf Pc.P2 c saw = ⊥
-LooksOf Pc.P3 c saw = ⊥
-LooksOf Pc.V0 c saw = ⊥
-LooksOf Pc.V1 c saw = ⊥
-LooksOf Pc.V2 c saw = ⊥
-LooksOf Pc.V3 c saw = ⊥
-LooksOf Pc.Reset c saw = ⊥
-LooksOf Pc.Raw c saw = ⊥
-LooksOf Pc.Swap c saw = ⊥
-LooksOf Pc.T1 c saw = ⊥
-LooksOf Pc.T2 c saw = ⊥
-LooksOf Pc.T3 c saw = ⊥
-LooksOf Pc.K1 c saw = Unit {0}
-LooksOf Pc.K2 c saw = saw ≡ c
-LooksOf Pc.K3 c saw = Unit {0}
-LooksOf Pc.K4 c saw = ⊥
-LooksOf Pc.E1 c saw = ⊥
-LooksOf Pc.E2 c saw = ⊥
-LooksOf Pc.E3 c saw = ⊥
-LooksOf Pc.B1 c saw = ⊥
-LooksOf Pc.Steal c saw = ⊥
-LooksOf Pc.H1 c saw = ⊥
-LooksOf Pc.H2 c saw = ⊥
-LooksOf Pc.Examine c saw = ⊥
-LooksOf Pc.Reclaim c saw = ⊥
-LooksOf Pc.Empty c saw = ⊥
-LooksOf Pc.Push1 c saw = ⊥
-LooksOf Pc.Push2 c saw = ⊥
-LooksOf Pc.C1 c saw = ⊥
-LooksOf Pc.C3 c saw = ⊥
-LooksOf Pc.Wait c saw = ⊥
-LooksOf Pc.S1 c saw = ⊥
-LooksOf Pc.S2 c saw = ⊥
-LooksOf Pc.S3 c saw = ⊥
-LooksOf Pc.Unknown c saw = ⊥
+abbrev pub LooksOf : Owe → ℕ → ℕ → Type 0
+LooksOf nothing c seen = ⊥
+LooksOf one c seen = ⊥
+LooksOf taken c seen = ⊥
+LooksOf looking c seen = Unit {0}
+LooksOf saw c seen = seen ≡ c
 
 abbrev pub Looks : ℕ → Row → Type 0
-Looks c r = LooksOf (pcOf (r .place)) c (r .count)
+Looks c r = LooksOf (owe (pcOf (r .place))) c (r .count)
 
 abbrev pub Low : Settings → ℕ → ℕ → List Row → Type 0
 Low g count n rows = (over g count n ≡ false) ⊎ ((u : ℕ) × (u < length rows) × Looks count (getD rows u idle))

@@ -29,7 +29,7 @@ use Rattle.counts.specs.CountLaws.{over-plain}
 use Rattle.lists.specs.Occ.{eq01, eq01-same, eq01-other, eq01-le, sum, sum-set}
 use Rattle.view.specs.View.{View, InTable, named, get, applies, enters}
 use Rattle.view.specs.Ranges.{limit}
-use Rattle.view.specs.Every.{pc-is, pick-all, pick-case}
+use Rattle.view.specs.Every.{pc-is, every, every-start, two, At, thus, either, pick-all, pick-case}
 use Rattle.view.specs.Long.{Long}
 use Rattle.view.specs.Rest.{all-passed, all-shut}
 use Rattle.view.specs.Turn.{rowIn, Look}
@@ -63,21 +63,29 @@ module _ (g : Settings) (v : View) (I : CountIn g v) (Z : ZoneIn v) (lv : Long v
   abbrev K : Pc → Effect → Type 0
   K p e = CountIn g (applies t (named (accesses p r)) e v)
 
-  is : (p : Pc) (x : Row) → x .place ≡ code p → pcOf (x .place) ≡ p
-  is p x e = pc-is p e
-
   owes-is : (p : Pc) → r .place ≡ code p → owes r ≡ owesOf (owe p) (r .rcount)
-  owes-is p e = ap (λ (q : Pc). owesOf (owe q) (r .rcount)) (is p r e)
+  owes-is p e = ap (λ (q : Pc). owesOf (owe q) (r .rcount)) (pc-is p e)
 
-  looks-is : (p : Pc) → r .place ≡ code p → Looks count r → LooksOf p count (r .count)
-  looks-is p e o = subst (λ (q : Pc). LooksOf q count (r .count)) (is p r e) o
+  looks-is : (p : Pc) → r .place ≡ code p → Looks count r → LooksOf (owe p) count (r .count)
+  looks-is p e o = subst (λ (q : Pc). LooksOf (owe q) count (r .count)) (pc-is p e) o
 
   -- only the row changes, and the thread has no look to do
-  goes : (p : Pc) → r .place ≡ code p → (LooksOf p count (r .count) → ⊥) → (x : Row) → owes x ≡ owesOf (owe p) (r .rcount) → CountAt g mark st count n (plus ticks 1) (set rows t x)
+  goes : (p : Pc) → r .place ≡ code p → (LooksOf (owe p) count (r .count) → ⊥) → (x : Row) → owes x ≡ owesOf (owe p) (r .rcount) → CountAt g mark st count n (plus ticks 1) (set rows t x)
   goes p e no′ x q = Balance.keeps g mark st count n ticks rows I t ht hk x (q ∙ sym (owes-is p e)) (λ o. absurd (no′ (looks-is p e o)))
 
-  stays : (p : Pc) → r .place ≡ code p → (LooksOf p count (r .count) → ⊥) → (x : Row) → x .place ≡ code p → owesOf (owe p) (x .rcount) ≡ owesOf (owe p) (r .rcount) → CountAt g mark st count n (plus ticks 1) (set rows t x)
-  stays p e no′ x f q = goes p e no′ x (ap (λ (w : Pc). owesOf (owe w) (x .rcount)) (is p x f) ∙ q)
+  -- a row that may stand after a step at p
+  record Seat (p : Pc) (x : Row) : Type 0 where
+    pub counted : CountAt g mark st count n (plus ticks 1) (set rows t x)
+
+  owing : {p : Pc} {x : Row} → r .place ≡ code p → (LooksOf (owe p) count (r .count) → ⊥) → owes x ≡ owesOf (owe p) (r .rcount) → Seat p x
+  owing {p} {x} e no′ q = record { counted = goes p e no′ x q }
+
+  stays : {p : Pc} {x : Row} → x .place ≡ r .place → x .rcount ≡ r .rcount → x .count ≡ r .count → Seat p x
+  stays {p} {x} a b c = record { counted = Balance.keeps g mark st count n ticks rows I t ht hk x (rw (a, b) refl) (λ o. inr (rw (a, c) o)) }
+
+  -- a step that leaves the counters, the mark and the states as they are
+  leaf : {p : Pc} {e : Effect} → applies t (named (accesses p r)) e v .heads .mark ≡ mark → applies t (named (accesses p r)) e v .nodes .state ≡ st → applies t (named (accesses p r)) e v .counters .count ≡ count → applies t (named (accesses p r)) e v .counters .recordCount ≡ n → applies t (named (accesses p r)) e v .counters .ticks ≡ plus ticks 1 → applies t (named (accesses p r)) e v .rows ≡ set rows t (e .row) → Seat p (e .row) → At K p e
+  leaf a b c d f h k = thus (rw (a, b, c, d, f, h) (k .counted))
 
   open′ : (p : Pc) → r .place ≡ code p → (Shut (side p) → ⊥) → mark ≡ 0
   open′ p e f = mark-open g v Z t ht p e f
@@ -86,24 +94,24 @@ module _ (g : Settings) (v : View) (I : CountIn g v) (Z : ZoneIn v) (lv : Long v
   counts : (p : Pc) → r .place ≡ code p → mark ≡ 0 → (c : ℕ) (x : Row) (a b : ℕ) → c < M → c + owes x + a * M ≡ count + owesOf (owe p) (r .rcount) + b * M → Low g c n (set rows t x) → CountAt g mark st c n (plus ticks 1) (set rows t x)
   counts p e m c x a b f q l = Balance.puts g mark st count n ticks rows I t ht hk st c x (λ z. Balance.balanced g mark st count n ticks rows I t ht hk st c x a b (let w = owes-is p e in omega arith) z) l (λ z. absurd (z m)) f
 
-  kT3 : (i : Seen) → Look g v t Pc.T3 r i → K Pc.T3 (does g Pc.T3 r i)
-  kT3 i l = subst (λ (y : ℕ). CountAt g mark st (plus y 1) n (plus ticks 1) (set rows t (goTo Pc.K1 r))) (sym (l .x))
-      (counts Pc.T3 (l .place) (open′ Pc.T3 (l .place) (λ q. q)) (plus count 1) (goTo Pc.K1 r) ((count + 1) / M) 0 (omega arith) (omega arith) (Balance.duty g mark st count n ticks rows I t ht hk (plus count 1) n (goTo Pc.K1 r) tt))
+  kT3 : (i : Seen) → Look g v t Pc.T3 r i → At K Pc.T3 (does g Pc.T3 r i)
+  kT3 i l = thus (subst (λ (y : ℕ). CountAt g mark st (plus y 1) n (plus ticks 1) (set rows t (goTo Pc.K1 r))) (sym (l .x))
+      (counts Pc.T3 (l .place) (open′ Pc.T3 (l .place) (λ q. q)) (plus count 1) (goTo Pc.K1 r) ((count + 1) / M) 0 (omega arith) (omega arith) (Balance.duty g mark st count n ticks rows I t ht hk (plus count 1) n (goTo Pc.K1 r) tt)))
 
-  kC1 : (i : Seen) → Look g v t Pc.C1 r i → K Pc.C1 (does g Pc.C1 r i)
-  kC1 i l = subst (λ (y : ℕ). CountAt g mark st (plus y (r .rcount)) n (plus ticks 1) (set rows t (goTo Pc.K1 (taking 0 r)))) (sym (l .x))
-      (counts Pc.C1 (l .place) (open′ Pc.C1 (l .place) (λ q. q)) (plus count (r .rcount)) (goTo Pc.K1 (taking 0 r)) ((count + r .rcount) / M) 0 (omega arith) (omega arith) (Balance.duty g mark st count n ticks rows I t ht hk (plus count (r .rcount)) n (goTo Pc.K1 (taking 0 r)) tt))
+  kC1 : (i : Seen) → Look g v t Pc.C1 r i → At K Pc.C1 (does g Pc.C1 r i)
+  kC1 i l = thus (subst (λ (y : ℕ). CountAt g mark st (plus y (r .rcount)) n (plus ticks 1) (set rows t (goTo Pc.K1 (taking 0 r)))) (sym (l .x))
+      (counts Pc.C1 (l .place) (open′ Pc.C1 (l .place) (λ q. q)) (plus count (r .rcount)) (goTo Pc.K1 (taking 0 r)) ((count + r .rcount) / M) 0 (omega arith) (omega arith) (Balance.duty g mark st count n ticks rows I t ht hk (plus count (r .rcount)) n (goTo Pc.K1 (taking 0 r)) tt)))
 
-  kK1 : (i : Seen) → Look g v t Pc.K1 r i → K Pc.K1 (does g Pc.K1 r i)
-  kK1 i l = Balance.keeps g mark st count n ticks rows I t ht hk _ (sym (owes-is Pc.K1 (l .place))) (λ o. inr (l .x))
+  kK1 : (i : Seen) → Look g v t Pc.K1 r i → At K Pc.K1 (does g Pc.K1 r i)
+  kK1 i l = thus (Balance.keeps g mark st count n ticks rows I t ht hk _ (sym (owes-is Pc.K1 (l .place))) (λ o. inr (l .x)))
 
-  kK2 : (i : Seen) → Look g v t Pc.K2 r i → K Pc.K2 (does g Pc.K2 r i)
+  kK2 : (i : Seen) → Look g v t Pc.K2 r i → At K Pc.K2 (does g Pc.K2 r i)
   kK2 i l =
-      pick-case (K Pc.K2) (over g (r .count) (i .x)) _ _ (λ _. Balance.keeps g mark st count n ticks rows I t ht hk _ (sym (owes-is Pc.K2 (l .place))) (λ o. inr tt))
-      (λ e. Balance.keeps g mark st count n ticks rows I t ht hk (checked (taking 0 r)) (owes-checked g (taking 0 r) ∙ sym (owes-is Pc.K2 (l .place))) (λ o. inl (subst (λ (c : ℕ). over g c n ≡ false) (looks-is Pc.K2 (l .place) o) (subst (λ (y : ℕ). over g (r .count) y ≡ false) (l .x) e))))
+      thus (pick-case (K Pc.K2) (over g (r .count) (i .x)) _ _ (λ _. Balance.keeps g mark st count n ticks rows I t ht hk _ (sym (owes-is Pc.K2 (l .place))) (λ o. inr tt))
+      (λ e. Balance.keeps g mark st count n ticks rows I t ht hk (checked (taking 0 r)) (owes-checked g (taking 0 r) ∙ sym (owes-is Pc.K2 (l .place))) (λ o. inl (subst (λ (c : ℕ). over g c n ≡ false) (looks-is Pc.K2 (l .place) o) (subst (λ (y : ℕ). over g (r .count) y ≡ false) (l .x) e)))))
 
-  kK3 : (i : Seen) → Look g v t Pc.K3 r i → K Pc.K3 (does g Pc.K3 r i)
-  kK3 i l = pick-case (K Pc.K3) (eqb (i .x) (r .count)) _ _ (λ e. pick-all (K Pc.K3) (i .flag) _ _ lost (won (eqb-true (i .x) (r .count) e))) (λ _. lost)
+  kK3 : (i : Seen) → Look g v t Pc.K3 r i → At K Pc.K3 (does g Pc.K3 r i)
+  kK3 i l = thus (pick-case (K Pc.K3) (eqb (i .x) (r .count)) _ _ (λ e. pick-all (K Pc.K3) (i .flag) _ _ lost (won (eqb-true (i .x) (r .count) e))) (λ _. lost))
     where
       lost : K Pc.K3 (becomes (goTo Pc.K2 (counting (i .x) r)))
       lost = Balance.keeps g mark st count n ticks rows I t ht hk (goTo Pc.K2 (counting (i .x) r)) (sym (owes-is Pc.K3 (l .place))) (λ o. inr (l .x))
@@ -111,42 +119,42 @@ module _ (g : Settings) (v : View) (I : CountIn g v) (Z : ZoneIn v) (lv : Long v
       won : i .x ≡ r .count → K Pc.K3 (stores 0 (becomes (goTo Pc.K4 (taking (r .count) r))))
       won e = counts Pc.K3 (l .place) (open′ Pc.K3 (l .place) (λ q. q)) 0 (goTo Pc.K4 (taking (r .count) r)) 0 0 (omega arith) (let a = l .x in omega arith) (inl (over-none g n))
 
-  kE3 : (i : Seen) → Look g v t Pc.E3 r i → K Pc.E3 (does g Pc.E3 r i)
-  kE3 i l = pick-case (K Pc.E3) (eqb (i .x) 0) _ _
+  kE3 : (i : Seen) → Look g v t Pc.E3 r i → At K Pc.E3 (does g Pc.E3 r i)
+  kE3 i l = thus (pick-case (K Pc.E3) (eqb (i .x) 0) _ _
       (λ e. counts Pc.E3 (l .place) (open′ Pc.E3 (l .place) (λ q. q)) 0 idle 0 0 (omega arith) (let a = l .x in let b = eqb-true (i .x) 0 e in omega arith) (inl (over-none g n)))
-      (λ e. counts Pc.E3 (l .place) (open′ Pc.E3 (l .place) (λ q. q)) 0 (goTo Pc.B1 (taking (i .x) r)) 0 0 (omega arith) (let a = l .x in omega arith) (inl (over-none g n)))
+      (λ e. counts Pc.E3 (l .place) (open′ Pc.E3 (l .place) (λ q. q)) 0 (goTo Pc.B1 (taking (i .x) r)) 0 0 (omega arith) (let a = l .x in omega arith) (inl (over-none g n))))
 
-  kN3 : (i : Seen) → Look g v t Pc.N3 r i → K Pc.N3 (does g Pc.N3 r i)
-  kN3 i l = subst (λ (y : ℕ). CountAt g mark st count (plus y 1) (plus ticks 1) (set rows t idle)) (sym (l .x))
-      (Balance.recorded g mark st count n ticks rows I t ht hk idle (sym (owes-is Pc.N3 (l .place))) (λ o. absurd (looks-is Pc.N3 (l .place) o)) (open′ Pc.N3 (l .place) (λ q. q)))
+  kN3 : (i : Seen) → Look g v t Pc.N3 r i → At K Pc.N3 (does g Pc.N3 r i)
+  kN3 i l = thus (subst (λ (y : ℕ). CountAt g mark st count (plus y 1) (plus ticks 1) (set rows t idle)) (sym (l .x))
+      (Balance.recorded g mark st count n ticks rows I t ht hk idle (sym (owes-is Pc.N3 (l .place))) (λ o. absurd (looks-is Pc.N3 (l .place) o)) (open′ Pc.N3 (l .place) (λ q. q))))
 
   -- ---- states
   freed : (m : ℕ) → m < length st → getD st m 0 ≡ 2 → waiting (set st m 0) + 1 ≡ waiting st
   freed m h w = let s = sum-set (λ x. eq01 x 2) st m 0 0 h in let a = ap (λ (x : ℕ). eq01 x 2) w in let b = eq01-same 2 in let c = eq01-other 0 2 (omega arith) in omega arith
 
-  kReclaim : (i : Seen) → Look g v t Pc.Reclaim r i → (r .reclaimable ≢ 0 → getD st (r .reclaimable) 0 ≡ 2) → K Pc.Reclaim (does g Pc.Reclaim r i)
+  kReclaim : (i : Seen) → Look g v t Pc.Reclaim r i → (r .reclaimable ≢ 0 → getD st (r .reclaimable) 0 ≡ 2) → At K Pc.Reclaim (does g Pc.Reclaim r i)
   kReclaim i l w =
-      let x : Row = freeing (reclaiming (i .v) r) in
+      thus (let x : Row = freeing (reclaiming (i .v) r) in
       let nz : r .reclaimable ≢ 0 = (let a = l .reach in omega arith) in
       let f = freed (r .reclaimable) (let a = lv .state in let b = l .reach in omega arith) (w nz) in
       let o = owes-reclaimed g (i .v) x (l .place) in
       let m = open′ Pc.Reclaim (l .place) (λ q. q) in
       Balance.puts g mark st count n ticks rows I t ht hk (set st (r .reclaimable) 0) count (reclaimed g (i .v) x)
       (λ z. Balance.balanced g mark st count n ticks rows I t ht hk (set st (r .reclaimable) 0) count (reclaimed g (i .v) x) ((r .rcount + (M - 1)) / M) 1 (let a = owes-is Pc.Reclaim (l .place) in omega arith) z)
-      (Balance.lower g mark st count n ticks rows I t ht hk (reclaimed g (i .v) x) (λ q. absurd (looks-is Pc.Reclaim (l .place) q))) (λ z. absurd (z m)) (I .fits)
+      (Balance.lower g mark st count n ticks rows I t ht hk (reclaimed g (i .v) x) (λ q. absurd (looks-is Pc.Reclaim (l .place) q))) (λ z. absurd (z m)) (I .fits))
 
-  kS2 : (i : Seen) → Look g v t Pc.S2 r i → (r .reclaimable ≢ 0 → getD st (r .reclaimable) 0 ≡ 2) → K Pc.S2 (does g Pc.S2 r i)
+  kS2 : (i : Seen) → Look g v t Pc.S2 r i → (r .reclaimable ≢ 0 → getD st (r .reclaimable) 0 ≡ 2) → At K Pc.S2 (does g Pc.S2 r i)
   kS2 i l w =
-      let nz : r .reclaimable ≢ 0 = (let a = l .reach in omega arith) in
+      thus (let nz : r .reclaimable ≢ 0 = (let a = l .reach in omega arith) in
       let f = freed (r .reclaimable) (let a = lv .state in let b = l .reach in omega arith) (w nz) in
       let m = all-shut-rows g v Z t ht Pc.S2 (l .place) (λ q. q) .0 in
-      Balance.puts g mark st count n ticks rows I t ht hk (set st (r .reclaimable) 0) count _ (λ z. absurd (m z)) (Balance.lower g mark st count n ticks rows I t ht hk _ (λ q. absurd (looks-is Pc.S2 (l .place) q))) (λ z. omega arith) (I .fits)
+      Balance.puts g mark st count n ticks rows I t ht hk (set st (r .reclaimable) 0) count _ (λ z. absurd (m z)) (Balance.lower g mark st count n ticks rows I t ht hk _ (λ q. absurd (looks-is Pc.S2 (l .place) q))) (λ z. omega arith) (I .fits))
 
-  kSwap : (i : Seen) → Look g v t Pc.Swap r i → K Pc.Swap (does g Pc.Swap r i)
+  kSwap : (i : Seen) → Look g v t Pc.Swap r i → At K Pc.Swap (does g Pc.Swap r i)
   kSwap i l =
-      pick-all (K Pc.Swap) (eqb (i .w) 2) _ _ still
+      thus (pick-all (K Pc.Swap) (eqb (i .w) 2) _ _ still
       (pick-case (K Pc.Swap) (eqb (r .node) 0) _ _ (λ _. still)
-      (λ e. pick-case (K Pc.Swap) (eqb (i .w) 0) _ _ (λ q. live (free e (eqb-true (i .w) 0 q)) (let a = lv .state in let b = l .small .node in omega arith)) (λ _. still)))
+      (λ e. pick-case (K Pc.Swap) (eqb (i .w) 0) _ _ (λ q. live (free e (eqb-true (i .w) 0 q)) (let a = lv .state in let b = l .small .node in omega arith)) (λ _. still))))
     where
       still : CountAt g mark st count n (plus ticks 1) (set rows t idle)
       still = goes Pc.Swap (l .place) (λ q. q) idle refl
@@ -167,62 +175,15 @@ module _ (g : Settings) (v : View) (I : CountIn g v) (Z : ZoneIn v) (lv : Long v
           Balance.puts g mark st count n ticks rows I t ht hk (set st (r .node) 1) count idle (λ m. Balance.balanced g mark st count n ticks rows I t ht hk (set st (r .node) 1) count idle 0 0 (omega arith) m)
           (Balance.lower g mark st count n ticks rows I t ht hk idle (λ q. absurd (looks-is Pc.Swap (l .place) q))) (λ m. omega arith) (I .fits)
 
-  kS3 : (i : Seen) → Look g v t Pc.S3 r i → K Pc.S3 (does g Pc.S3 r i)
+  kS3 : (i : Seen) → Look g v t Pc.S3 r i → At K Pc.S3 (does g Pc.S3 r i)
   kS3 i l =
-      let m = all-shut-rows g v Z t ht Pc.S3 (l .place) (λ q. q) .0 in
+      thus (let m = all-shut-rows g v Z t ht Pc.S3 (l .place) (λ q. q) .0 in
       let b = goes Pc.S3 (l .place) (λ q. q) idle refl in
-      record { balance = λ z. absurd (let q : _≡_ {A = ℕ} 2 0 = z in omega arith); low = b .low; few = λ _. b .few m; fits = b .fits; slow = b .slow; early = b .early }
+      record { balance = λ z. absurd (let q : _≡_ {A = ℕ} 2 0 = z in omega arith); low = b .low; few = λ _. b .few m; fits = b .fits; slow = b .slow; early = b .early })
 
   -- ---- every place
   pub count-place : (p : Pc) (i : Seen) → Look g v t p r i → (r .reclaimable ≢ 0 → getD st (r .reclaimable) 0 ≡ 2) → K p (does g p r i)
-  count-place Pc.Idle i l w = absurd (l .fine refl)
-  count-place Pc.A1 i l w = pick-all (K Pc.A1) (locked (i .v)) _ _ (stays Pc.A1 (l .place) (λ q. q) (r) (l .place) refl) (pick-all (K Pc.A1) (eqb (i .v) 0) _ _ (goes Pc.A1 (l .place) (λ q. q) _ refl) (goes Pc.A1 (l .place) (λ q. q) _ refl))
-  count-place Pc.A2 i l w = pick-all (K Pc.A2) (eqb (i .v) (r .rec * 2)) _ _ (pick-all (K Pc.A2) (i .flag) _ _ (goes Pc.A2 (l .place) (λ q. q) _ refl) (goes Pc.A2 (l .place) (λ q. q) _ refl)) (goes Pc.A2 (l .place) (λ q. q) _ refl)
-  count-place Pc.A3 i l w = goes Pc.A3 (l .place) (λ q. q) _ refl
-  count-place Pc.A4 i l w = goes Pc.A4 (l .place) (λ q. q) _ refl
-  count-place Pc.A5 i l w = goes Pc.A5 (l .place) (λ q. q) _ refl
-  count-place Pc.A6 i l w = goes Pc.A6 (l .place) (λ q. q) _ refl
-  count-place Pc.N1 i l w = pick-all (K Pc.N1) (eqb (i .untaken) 0) _ _ (goes Pc.N1 (l .place) (λ q. q) _ refl) (goes Pc.N1 (l .place) (λ q. q) _ refl)
-  count-place Pc.N2 i l w = pick-all (K Pc.N2) (eqb (i .v) (r .next)) _ _ (pick-all (K Pc.N2) (i .flag) _ _ (stays Pc.N2 (l .place) (λ q. q) (Rows.withNext (i .v) r) (l .place) refl) (goes Pc.N2 (l .place) (λ q. q) _ refl)) (stays Pc.N2 (l .place) (λ q. q) (Rows.withNext (i .v) r) (l .place) refl)
-  count-place Pc.N3 i l w = kN3 i l
-  count-place Pc.D1 i l w = goes Pc.D1 (l .place) (λ q. q) _ refl
-  count-place Pc.D2 i l w = pick-all (K Pc.D2) (eqb (i .v) 0) _ _ (goes Pc.D2 (l .place) (λ q. q) _ refl) (stays Pc.D2 (l .place) (λ q. q) (r) (l .place) refl)
-  count-place Pc.P1 i l w = pick-all (K Pc.P1) (locked (i .v)) _ _ (stays Pc.P1 (l .place) (λ q. q) (r) (l .place) refl) (goes Pc.P1 (l .place) (λ q. q) _ refl)
-  count-place Pc.P2 i l w = goes Pc.P2 (l .place) (λ q. q) _ refl
-  count-place Pc.P3 i l w = pick-all (K Pc.P3) (eqb (i .v) (r .next * 2)) _ _ (pick-all (K Pc.P3) (i .flag) _ _ (goes Pc.P3 (l .place) (λ q. q) _ refl) (goes Pc.P3 (l .place) (λ q. q) _ refl)) (goes Pc.P3 (l .place) (λ q. q) _ refl)
-  count-place Pc.V0 i l w = goes Pc.V0 (l .place) (λ q. q) _ refl
-  count-place Pc.V1 i l w = goes Pc.V1 (l .place) (λ q. q) _ refl
-  count-place Pc.V2 i l w = pick-all (K Pc.V2) (eqb (i .v) (r .node)) _ _ (goes Pc.V2 (l .place) (λ q. q) _ refl) (goes Pc.V2 (l .place) (λ q. q) _ refl)
-  count-place Pc.V3 i l w = pick-all (K Pc.V3) (eqb (r .operation) 3) _ _ (goes Pc.V3 (l .place) (λ q. q) _ refl) (goes Pc.V3 (l .place) (λ q. q) _ refl)
-  count-place Pc.Reset i l w = goes Pc.Reset (l .place) (λ q. q) _ refl
-  count-place Pc.Raw i l w = goes Pc.Raw (l .place) (λ q. q) _ refl
-  count-place Pc.Swap i l w = kSwap i l
-  count-place Pc.T1 i l w = goes Pc.T1 (l .place) (λ q. q) _ refl
-  count-place Pc.T2 i l w = pick-all (K Pc.T2) (eqb (i .v) (r .seen)) _ _ (pick-all (K Pc.T2) (i .flag) _ _ (stays Pc.T2 (l .place) (λ q. q) (Rows.seeing (i .v) r) (l .place) refl) (goes Pc.T2 (l .place) (λ q. q) _ refl)) (stays Pc.T2 (l .place) (λ q. q) (Rows.seeing (i .v) r) (l .place) refl)
-  count-place Pc.T3 i l w = kT3 i l
-  count-place Pc.K1 i l w = kK1 i l
-  count-place Pc.K2 i l w = kK2 i l
-  count-place Pc.K3 i l w = kK3 i l
-  count-place Pc.K4 i l w = goes Pc.K4 (l .place) (λ q. q) _ (owes-checked g _)
-  count-place Pc.E1 i l w = pick-all (K Pc.E1) ((g .due) (i .clock) (i .x)) _ _ (goes Pc.E1 (l .place) (λ q. q) _ refl) (goes Pc.E1 (l .place) (λ q. q) _ refl)
-  count-place Pc.E2 i l w = pick-all (K Pc.E2) (eqb (i .x) (r .due)) _ _ (goes Pc.E2 (l .place) (λ q. q) _ refl) (goes Pc.E2 (l .place) (λ q. q) _ refl)
-  count-place Pc.E3 i l w = kE3 i l
-  count-place Pc.B1 i l w = goes Pc.B1 (l .place) (λ q. q) _ refl
-  count-place Pc.Steal i l w = pick-all (K Pc.Steal) (eqb (shardIn r + 1) (g .shards)) _ _ (pick-all (K Pc.Steal) (eqb (stolenFrom (stealing (i .v) r .stolen) 0 (g .shards)) (g .shards)) _ _ (goes Pc.Steal (l .place) (λ q. q) _ (owes-passed g _)) (goes Pc.Steal (l .place) (λ q. q) _ refl)) (stays Pc.Steal (l .place) (λ q. q) (inShard (shardIn r + 1) (stealing (i .v) r)) (l .place) refl)
-  count-place Pc.H1 i l w = pick-all (K Pc.H1) (eqb (i .v) 0) _ _ (goes Pc.H1 (l .place) (λ q. q) _ (owes-from g 0 r)) (goes Pc.H1 (l .place) (λ q. q) _ refl)
-  count-place Pc.H2 i l w = pick-all (K Pc.H2) (eqb (i .w) 0) _ _ (goes Pc.H2 (l .place) (λ q. q) _ (owes-from g 0 r)) (stays Pc.H2 (l .place) (λ q. q) (Rows.withRec (i .w) r) (l .place) refl)
-  count-place Pc.Examine i l w = pick-all (K Pc.Examine) (i .guarded) _ _ (goes Pc.Examine (l .place) (λ q. q) _ (owes-examined g (i .v) _ (l .place))) (goes Pc.Examine (l .place) (λ q. q) _ (owes-examined g (i .v) _ (l .place)))
-  count-place Pc.Reclaim i l w = kReclaim i l w
-  count-place Pc.Empty i l w = pick-all (K Pc.Empty) (eqb (i .v) 0) _ _ (pick-all (K Pc.Empty) (eqb (shardIn r + 1) (g .shards)) _ _ (goes Pc.Empty (l .place) (λ q. q) _ (owes-emptied g _)) (stays Pc.Empty (l .place) (λ q. q) (inShard (shardIn r + 1) r) (l .place) refl)) (goes Pc.Empty (l .place) (λ q. q) _ (owes-emptied g _))
-  count-place Pc.Push1 i l w = goes Pc.Push1 (l .place) (λ q. q) _ refl
-  count-place Pc.Push2 i l w = pick-all (K Pc.Push2) (eqb (i .v) (r .seen)) _ _ (pick-all (K Pc.Push2) (i .flag) _ _ (stays Pc.Push2 (l .place) (λ q. q) (Rows.seeing (i .v) r) (l .place) refl) (goes Pc.Push2 (l .place) (λ q. q) _ (owes-passed g _))) (stays Pc.Push2 (l .place) (λ q. q) (Rows.seeing (i .v) r) (l .place) refl)
-  count-place Pc.C1 i l w = kC1 i l
-  count-place Pc.C3 i l w = pick-all (K Pc.C3) (eqb (r .operation) 11) _ _ (goes Pc.C3 (l .place) (λ q. q) _ refl) (goes Pc.C3 (l .place) (λ q. q) _ refl)
-  count-place Pc.Wait i l w = pick-all (K Pc.Wait) (eqb (i .x) 0) _ _ (goes Pc.Wait (l .place) (λ q. q) _ refl) (stays Pc.Wait (l .place) (λ q. q) (r) (l .place) refl)
-  count-place Pc.S1 i l w = pick-all (K Pc.S1) (eqb (i .v) 0) _ _ (all-shut (λ x. CountAt g mark st count n (plus ticks 1) (set rows t x)) g r (goes Pc.S1 (l .place) (λ q. q) _ refl) (λ j. goes Pc.S1 (l .place) (λ q. q) _ refl)) (goes Pc.S1 (l .place) (λ q. q) _ refl)
-  count-place Pc.S2 i l w = kS2 i l w
-  count-place Pc.S3 i l w = kS3 i l
-  count-place Pc.Unknown i l w = absurd (l .fine refl)
+  count-place p i l w = every (λ (p : Pc). Look g v t p r i → r .place ≡ code p → At K p (does g p r i)) (search (two, kT3, kC1, kK1, kK2, kK3, kE3, kN3, kReclaim, kS2, kSwap, kS3, either, leaf, stays, owing, owes-passed g, owes-checked g, owes-emptied g, owes-from g, owes-examined g, all-shut (λ (x : Row). owes x ≡ 0) g) depth 16 fits 8000) p l (l .place) .holds
 
   pub count-ends : (m : ℕ) → (pcOf (r .place) ≡ Pc.N1) ⊎ (pcOf (r .place) ≡ Pc.Swap) → CountIn g (applies t cell.Nothing (ends m) v)
   count-ends m w = Balance.keeps g mark st count n ticks rows I t ht hk idle (sym (at w)) (λ o. absurd (none w o))
@@ -232,8 +193,8 @@ module _ (g : Settings) (v : View) (I : CountIn g v) (Z : ZoneIn v) (lv : Long v
       at (inr e) = ap (λ (q : Pc). owesOf (owe q) (r .rcount)) e
 
       none : (pcOf (r .place) ≡ Pc.N1) ⊎ (pcOf (r .place) ≡ Pc.Swap) → Looks count r → ⊥
-      none (inl e) o = subst (λ (q : Pc). LooksOf q count (r .count)) e o
-      none (inr e) o = subst (λ (q : Pc). LooksOf q count (r .count)) e o
+      none (inl e) o = subst (λ (q : Pc). LooksOf (owe q) count (r .count)) e o
+      none (inr e) o = subst (λ (q : Pc). LooksOf (owe q) count (r .count)) e o
 
 -- ---- the bound: with no thread inside, few nodes wait
 pub waiting-le : (l : List ℕ) → waiting l ≤ length l
@@ -261,7 +222,7 @@ module _ (g : Settings) (v : View) (I : CountIn g v) (lv : Long v) (idles : (u :
           let c = small in
           let d = same in
           let e = ltb-false (max (g .floor) (2 * v .counters .recordCount)) (v .counters .count) (sym (over-plain g (v .counters .count) (v .counters .recordCount) (omega arith) (omega arith)) ∙ z) in omega arith
-      go (inr w) = absurd (subst (λ (q : ℕ). LooksOf (pcOf q) (v .counters .count) (getD (v .rows) (w .0) idle .count)) (idles (w .0) (w .1)) (w .2))
+      go (inr w) = absurd (subst (λ (q : ℕ). LooksOf (owe (pcOf q)) (v .counters .count) (getD (v .rows) (w .0) idle .count)) (idles (w .0) (w .1)) (w .2))
 
   pub few : waiting (v .nodes .state) ≤ max (g .floor) (2 * v .counters .recordCount)
   few = go (ℕ-discrete (v .heads .mark) 0)
@@ -286,7 +247,7 @@ module _ (g : Settings) (v : View) (I : CountIn g v) (lv : Long v) (t : ℕ) (ht
       go (inr w) = at (ℕ-discrete (w .0) t)
         where
           at : Dec (w .0 ≡ t) → Low g (v .counters .count) (v .counters .recordCount) (rows′ x)
-          at (yes q) = absurd (subst (λ (k : ℕ). LooksOf (pcOf k) (v .counters .count) (rowIn v t .count)) e (subst (λ (u : ℕ). Looks (v .counters .count) (getD (v .rows) u idle)) q (w .2)))
+          at (yes q) = absurd (subst (λ (k : ℕ). LooksOf (owe (pcOf k)) (v .counters .count) (rowIn v t .count)) e (subst (λ (u : ℕ). Looks (v .counters .count) (getD (v .rows) u idle)) q (w .2)))
           at (no q) = inr (w .0, rw length-set (w .1), rw (getD-set-other (v .rows) t (w .0) x idle q) (w .2))
 
   begins-with : (st′ : List ℕ) (x : Row) → owes x + waiting (v .nodes .state) ≡ waiting st′ → CountAt g (v .heads .mark) st′ (v .counters .count) (v .counters .recordCount) (v .counters .ticks) (rows′ x)
@@ -302,17 +263,9 @@ module _ (g : Settings) (v : View) (I : CountIn g v) (lv : Long v) (t : ℕ) (ht
   plain : (x : Row) → owes x ≡ 0 → CountAt g (v .heads .mark) (v .nodes .state) (v .counters .count) (v .counters .recordCount) (v .counters .ticks) (rows′ x)
   plain x q = begins-with (v .nodes .state) x (omega arith)
 
-  pub count-begin : (o : Operation) → Admitted v t o → length (v .rows) ≡ threads → CountIn g (enters t (begins g o) v)
+  retire : (m x : ℕ) → Admitted v t (Retire m x) → CountIn g (enters t (begins g (Retire m x)) v)
   unfolding begins
-  count-begin Acquire a hl = plain _ refl
-  count-begin (Release x) a hl = plain _ refl
-  count-begin (Protect x b) a hl = plain _ refl
-  count-begin (Try x b m) a hl = plain _ refl
-  count-begin (TryProtect x b m) a hl = plain _ refl
-  count-begin (Reset x) a hl = plain _ refl
-  count-begin (Raw x m) a hl = plain _ refl
-  count-begin (Swap b m) a hl = plain _ refl
-  count-begin (Retire m x) a hl =
+  retire m x a =
       let q = a .0 in
       let same : narrow m ≡ m = omega arith in
       let s = sum-set (λ y. eq01 y 2) (v .nodes .state) (narrow m) 2 0 (let b = lv .state in omega arith) in
@@ -321,8 +274,13 @@ module _ (g : Settings) (v : View) (I : CountIn g v) (lv : Long v) (t : ℕ) (ht
       let c = eq01-same 2 in
       let d = eq01-other 1 2 (omega arith) in
       begins-with (set (v .nodes .state) (narrow m) 2) _ (omega arith)
-  count-begin Eager a hl = plain _ refl
-  count-begin Cleanup a hl = plain _ refl
-  count-begin Shutdown a hl =
+
+  shutdown : Admitted v t Shutdown → length (v .rows) ≡ threads → CountIn g (enters t (begins g Shutdown) v)
+  unfolding begins
+  shutdown a hl =
       let b = plain (freshAt 12 (code Pc.S1) 0 0 0 0 0) refl in
       record { balance = λ z. absurd (let q : _≡_ {A = ℕ} 1 0 = z in omega arith); low = b .low; few = λ _. few g v I lv (λ u hu. a .0 u (rw hl at hu)); fits = b .fits; slow = b .slow; early = b .early }
+
+  pub count-begin : (o : Operation) → Admitted v t o → length (v .rows) ≡ threads → CountIn g (enters t (begins g o) v)
+  unfolding begins
+  count-begin = every-start (λ (o : Operation). Admitted v t o → length (v .rows) ≡ threads → CountIn g (enters t (begins g o) v)) (search (two, plain, retire, shutdown))

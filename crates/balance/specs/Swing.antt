@@ -24,7 +24,7 @@ use Rattle.rules.specs.declared.Effect.{Effect}
 use Rattle.rules.specs.declared.Named.the-variants as cell
 use Rattle.lists.specs.Occ.{sum, sum-set}
 use Rattle.view.specs.View.{View, named, applies, enters}
-use Rattle.view.specs.Every.{pc-is, pick-all, pick-case}
+use Rattle.view.specs.Every.{pc-is, every, every-start, two, At, thus, either, pick-all, pick-case}
 use Rattle.view.specs.Rest.{all-passed, all-checked, all-emptied, all-from, all-examined, all-reclaimed, all-shut}
 use Rattle.view.specs.Turn.{rowIn, Look}
 use Rattle.balance.specs.Balance.{Owe, owe, M}
@@ -76,6 +76,8 @@ abbrev pub swingOf : Owe → ℕ → ℕ
 swingOf Owe.nothing rcount = 0
 swingOf Owe.one rcount = 0
 swingOf Owe.taken rcount = size rcount
+swingOf Owe.looking rcount = 0
+swingOf Owe.saw rcount = 0
 
 abbrev pub swing : Row → ℕ
 swing r = swingOf (owe (pcOf (r .place))) (r .rcount)
@@ -99,27 +101,13 @@ module _ (g : Settings) (v : View) (I : SwingIn v) (t : ℕ) (ht : t < length (v
 
   pub swing-begin : (o : Operation) → SwingIn (enters t (begins g o) v)
   unfolding begins
-  swing-begin Acquire = begins-with _ refl
-  swing-begin (Release x) = begins-with _ refl
-  swing-begin (Protect x b) = begins-with _ refl
-  swing-begin (Try x b m) = begins-with _ refl
-  swing-begin (TryProtect x b m) = begins-with _ refl
-  swing-begin (Reset x) = begins-with _ refl
-  swing-begin (Raw x m) = begins-with _ refl
-  swing-begin (Swap b m) = begins-with _ refl
-  swing-begin (Retire m x) = begins-with _ refl
-  swing-begin Eager = begins-with _ size-0
-  swing-begin Cleanup = begins-with _ size-0
-  swing-begin Shutdown = begins-with _ refl
+  swing-begin = every-start (λ (o : Operation). SwingIn (enters t (begins g o) v)) (search (two, begins-with, size-0))
 
   module _ (hk : v .counters .ticks < steps) where
     abbrev K : Pc → Effect → Type 0
     K p e = SwingIn (applies t (named (accesses p r)) e v)
 
-    abbrev Sit : ℕ → Row → Type 0
-    Sit n x = SwingAt (plus (v .counters .ticks) 1) n (set (v .rows) t x)
-
-    sit : (n : ℕ) (x : Row) → size n + swing x ≤ size c + swing r + 1 → Sit n x
+    sit : (n : ℕ) (x : Row) → size n + swing x ≤ size c + swing r + 1 → SwingAt (plus (v .counters .ticks) 1) n (set (v .rows) t x)
     sit n x h = let s = sum-set swing (v .rows) t x idle ht in let a = I in omega arith
 
     held : (p : Pc) (x : Row) → x .place ≡ code p → swing x ≡ swingOf (owe p) (x .rcount)
@@ -128,52 +116,41 @@ module _ (g : Settings) (v : View) (I : SwingIn v) (t : ℕ) (ht : t < length (v
     pub swing-ends : (m : ℕ) → SwingIn (applies t cell.Nothing (ends m) v)
     swing-ends m = sit c idle (omega arith)
 
+    -- a row that has taken no more than the thread had
+    record Calm (x : Row) : Type 0 where
+      pub le : swing x ≤ swing r
+
+    kept : {n : ℕ} (x : Row) → swing r ≡ n → swing x ≡ n → Calm x
+    kept x a b = record { le = omega arith }
+
+    none : (x : Row) → swing x ≡ 0 → Calm x
+    none x a = record { le = omega arith }
+
+    stays : (x : Row) → x .place ≡ r .place → x .rcount ≡ r .rcount → Calm x
+    stays x a b = record { le = rw (a, b) (omega arith) }
+
+    leaf : {p : Pc} {e : Effect} → applies t (named (accesses p r)) e v .counters .count ≡ c → applies t (named (accesses p r)) e v .counters .ticks ≡ plus (v .counters .ticks) 1 → applies t (named (accesses p r)) e v .rows ≡ set (v .rows) t (e .row) → Calm (e .row) → At K p e
+    leaf {p} {e} a b d h = thus (rw (a, b, d) (sit c (e .row) (let q = h .le in omega arith)))
+
+    -- ---- the places that move the count, or reclaim
+    kT3 : (i : Seen) → Look g v t Pc.T3 r i → At K Pc.T3 (does g Pc.T3 r i)
+    kT3 i l = thus (sit _ _ (let a : size (i .x) ≡ size c = ap size (l .x) in let b = size-plus (i .x) 1 in let d = size-1 in omega arith))
+
+    kK3 : (i : Seen) → Look g v t Pc.K3 r i → At K Pc.K3 (does g Pc.K3 r i)
+    kK3 i l = let d = size-0 in pick-case (At K Pc.K3) (eqb (i .x) (r .count)) _ _ (λ e. pick-all (At K Pc.K3) (i .flag) _ _ (thus (sit c _ (omega arith))) (thus (sit 0 _ (let a : size (r .count) ≡ size c = ap size (sym (eqb-true (i .x) (r .count) e) ∙ l .x) in omega arith)))) (λ _. thus (sit c _ (omega arith)))
+
+    kE3 : (i : Seen) → Look g v t Pc.E3 r i → At K Pc.E3 (does g Pc.E3 r i)
+    kE3 i l = let d = size-0 in pick-all (At K Pc.E3) (eqb (i .x) 0) _ _ (thus (sit 0 _ (omega arith))) (thus (sit 0 _ (let a : size (i .x) ≡ size c = ap size (l .x) in omega arith)))
+
+    kReclaim : (i : Seen) → Look g v t Pc.Reclaim r i → At K Pc.Reclaim (does g Pc.Reclaim r i)
+    kReclaim i l =
+        let o = held Pc.Reclaim r (l .place) in
+        let b = size-less (r .rcount) in
+        let e = held Pc.Reclaim (Rows.freeing (Rows.reclaiming (i .v) r)) (l .place) in
+        thus (all-reclaimed (λ (x : Row). SwingAt (plus (v .counters .ticks) 1) c (set (v .rows) t x)) g _ _ (sit c _ (omega arith)) (λ j. sit c _ (omega arith)) (sit c _ (omega arith)))
+
+    kC1 : (i : Seen) → Look g v t Pc.C1 r i → At K Pc.C1 (does g Pc.C1 r i)
+    kC1 i l = thus (sit _ _ (let o = held Pc.C1 r (l .place) in let a : size (i .x) ≡ size c = ap size (l .x) in let b = size-plus (i .x) (r .rcount) in omega arith))
+
     pub swing-place : (p : Pc) (i : Seen) → Look g v t p r i → K p (does g p r i)
-    swing-place Pc.Idle i l = absurd (l .fine refl)
-    swing-place Pc.A1 i l = pick-all (K Pc.A1) (locked (i .v)) _ _ (sit c (r) (omega arith)) (pick-all (K Pc.A1) (eqb (i .v) 0) _ _ (sit c _ (omega arith)) (sit c _ (omega arith)))
-    swing-place Pc.A2 i l = pick-all (K Pc.A2) (eqb (i .v) (r .rec * 2)) _ _ (pick-all (K Pc.A2) (i .flag) _ _ (sit c _ (omega arith)) (sit c _ (omega arith))) (sit c _ (omega arith))
-    swing-place Pc.A3 i l = sit c _ (omega arith)
-    swing-place Pc.A4 i l = sit c _ (omega arith)
-    swing-place Pc.A5 i l = sit c _ (omega arith)
-    swing-place Pc.A6 i l = sit c _ (omega arith)
-    swing-place Pc.N1 i l = pick-all (K Pc.N1) (eqb (i .untaken) 0) _ _ (sit c _ (omega arith)) (sit c _ (omega arith))
-    swing-place Pc.N2 i l = pick-all (K Pc.N2) (eqb (i .v) (r .next)) _ _ (pick-all (K Pc.N2) (i .flag) _ _ (sit c (Rows.withNext (i .v) r) (omega arith)) (sit c _ (omega arith))) (sit c (Rows.withNext (i .v) r) (omega arith))
-    swing-place Pc.N3 i l = sit c _ (omega arith)
-    swing-place Pc.D1 i l = sit c _ (omega arith)
-    swing-place Pc.D2 i l = pick-all (K Pc.D2) (eqb (i .v) 0) _ _ (sit c _ (omega arith)) (sit c (r) (omega arith))
-    swing-place Pc.P1 i l = pick-all (K Pc.P1) (locked (i .v)) _ _ (sit c (r) (omega arith)) (sit c _ (omega arith))
-    swing-place Pc.P2 i l = sit c _ (omega arith)
-    swing-place Pc.P3 i l = pick-all (K Pc.P3) (eqb (i .v) (r .next * 2)) _ _ (pick-all (K Pc.P3) (i .flag) _ _ (sit c _ (omega arith)) (sit c _ (omega arith))) (sit c _ (omega arith))
-    swing-place Pc.V0 i l = sit c _ (omega arith)
-    swing-place Pc.V1 i l = sit c _ (omega arith)
-    swing-place Pc.V2 i l = pick-all (K Pc.V2) (eqb (i .v) (r .node)) _ _ (sit c _ (omega arith)) (sit c _ (omega arith))
-    swing-place Pc.V3 i l = pick-all (K Pc.V3) (eqb (r .operation) 3) _ _ (sit c _ (omega arith)) (sit c _ (omega arith))
-    swing-place Pc.Reset i l = sit c _ (omega arith)
-    swing-place Pc.Raw i l = sit c _ (omega arith)
-    swing-place Pc.Swap i l = pick-all (K Pc.Swap) (eqb (i .w) 2) _ _ (sit c _ (omega arith)) (pick-all (K Pc.Swap) (eqb (r .node) 0) _ _ (sit c _ (omega arith)) (pick-all (K Pc.Swap) (eqb (i .w) 0) _ _ (sit c _ (omega arith)) (sit c _ (omega arith))))
-    swing-place Pc.T1 i l = sit c _ (omega arith)
-    swing-place Pc.T2 i l = pick-all (K Pc.T2) (eqb (i .v) (r .seen)) _ _ (pick-all (K Pc.T2) (i .flag) _ _ (sit c (Rows.seeing (i .v) r) (omega arith)) (sit c _ (omega arith))) (sit c (Rows.seeing (i .v) r) (omega arith))
-    swing-place Pc.T3 i l = sit _ _ (let a : size (i .x) ≡ size c = ap size (l .x) in let b = size-plus (i .x) 1 in let d = size-1 in omega arith)
-    swing-place Pc.K1 i l = sit c _ (omega arith)
-    swing-place Pc.K2 i l = let d = size-0 in pick-all (K Pc.K2) (over g (r .count) (i .x)) _ _ (sit c _ (omega arith)) (all-checked (Sit c) g _ (sit c _ (omega arith)) (sit c _ (omega arith)) (sit c _ (omega arith)) (sit c _ (omega arith)))
-    swing-place Pc.K3 i l = let d = size-0 in pick-case (K Pc.K3) (eqb (i .x) (r .count)) _ _ (λ e. pick-all (K Pc.K3) (i .flag) _ _ (sit c _ (omega arith)) (sit 0 _ (let a : size (r .count) ≡ size c = ap size (sym (eqb-true (i .x) (r .count) e) ∙ l .x) in omega arith))) (λ _. sit c _ (omega arith))
-    swing-place Pc.K4 i l = let o = held Pc.K4 r (l .place) in all-checked (Sit c) g _ (sit c _ (omega arith)) (sit c _ (omega arith)) (sit c _ (omega arith)) (sit c _ (omega arith))
-    swing-place Pc.E1 i l = pick-all (K Pc.E1) ((g .due) (i .clock) (i .x)) _ _ (sit c _ (omega arith)) (sit c _ (omega arith))
-    swing-place Pc.E2 i l = pick-all (K Pc.E2) (eqb (i .x) (r .due)) _ _ (sit c _ (omega arith)) (sit c _ (omega arith))
-    swing-place Pc.E3 i l = let d = size-0 in pick-all (K Pc.E3) (eqb (i .x) 0) _ _ (sit 0 _ (omega arith)) (sit 0 _ (let a : size (i .x) ≡ size c = ap size (l .x) in omega arith))
-    swing-place Pc.B1 i l = let o = held Pc.B1 r (l .place) in sit c _ (omega arith)
-    swing-place Pc.Steal i l = let o = held Pc.Steal r (l .place) in pick-all (K Pc.Steal) (eqb (shardIn r + 1) (g .shards)) _ _ (pick-all (K Pc.Steal) (eqb (stolenFrom (stealing (i .v) r .stolen) 0 (g .shards)) (g .shards)) _ _ (all-passed (Sit c) g _ (sit c _ (omega arith)) (sit c _ (omega arith))) (sit c _ (omega arith))) (sit c (inShard (shardIn r + 1) (stealing (i .v) r)) (omega arith))
-    swing-place Pc.H1 i l = let o = held Pc.H1 r (l .place) in pick-all (K Pc.H1) (eqb (i .v) 0) _ _ (all-from (Sit c) g _ _ (sit c _ (omega arith)) (λ j. sit c _ (omega arith))) (sit c _ (omega arith))
-    swing-place Pc.H2 i l = let o = held Pc.H2 r (l .place) in pick-all (K Pc.H2) (eqb (i .w) 0) _ _ (all-from (Sit c) g _ _ (sit c _ (omega arith)) (λ j. sit c _ (omega arith))) (sit c (Rows.withRec (i .w) r) (omega arith))
-    swing-place Pc.Examine i l = let o = held Pc.Examine r (l .place) in pick-all (K Pc.Examine) (i .guarded) _ _ (all-examined (Sit c) g _ _ (sit c _ (omega arith)) (λ j. sit c _ (omega arith)) (sit c _ (omega arith)) (sit c _ (omega arith))) (all-examined (Sit c) g _ _ (sit c _ (omega arith)) (λ j. sit c _ (omega arith)) (sit c _ (omega arith)) (sit c _ (omega arith)))
-    swing-place Pc.Reclaim i l = let o = held Pc.Reclaim r (l .place) in let b = size-less (r .rcount) in let e = held Pc.Reclaim (Rows.freeing (Rows.reclaiming (i .v) r)) (l .place) in all-reclaimed (Sit c) g _ _ (sit c _ (omega arith)) (λ j. sit c _ (omega arith)) (sit c _ (omega arith))
-    swing-place Pc.Empty i l = let o = held Pc.Empty r (l .place) in pick-all (K Pc.Empty) (eqb (i .v) 0) _ _ (pick-all (K Pc.Empty) (eqb (shardIn r + 1) (g .shards)) _ _ (all-emptied (Sit c) g _ (sit c _ (omega arith)) (sit c _ (omega arith)) (sit c _ (omega arith))) (sit c (inShard (shardIn r + 1) r) (omega arith))) (all-emptied (Sit c) g _ (sit c _ (omega arith)) (sit c _ (omega arith)) (sit c _ (omega arith)))
-    swing-place Pc.Push1 i l = let o = held Pc.Push1 r (l .place) in sit c _ (omega arith)
-    swing-place Pc.Push2 i l = let o = held Pc.Push2 r (l .place) in pick-all (K Pc.Push2) (eqb (i .v) (r .seen)) _ _ (pick-all (K Pc.Push2) (i .flag) _ _ (sit c (Rows.seeing (i .v) r) (omega arith)) (all-passed (Sit c) g _ (sit c _ (omega arith)) (sit c _ (omega arith)))) (sit c (Rows.seeing (i .v) r) (omega arith))
-    swing-place Pc.C1 i l = sit _ _ (let o = held Pc.C1 r (l .place) in let a : size (i .x) ≡ size c = ap size (l .x) in let b = size-plus (i .x) (r .rcount) in omega arith)
-    swing-place Pc.C3 i l = pick-all (K Pc.C3) (eqb (r .operation) 11) _ _ (sit c _ (omega arith)) (sit c _ (omega arith))
-    swing-place Pc.Wait i l = pick-all (K Pc.Wait) (eqb (i .x) 0) _ _ (sit c _ (omega arith)) (sit c (r) (omega arith))
-    swing-place Pc.S1 i l = pick-all (K Pc.S1) (eqb (i .v) 0) _ _ (all-shut (Sit c) g _ (sit c _ (omega arith)) (λ j. sit c _ (omega arith))) (sit c _ (omega arith))
-    swing-place Pc.S2 i l = pick-all (Sit c) (eqb (i .v) 0) _ _ (all-shut (Sit c) g _ (sit c _ (omega arith)) (λ j. sit c _ (omega arith))) (sit c _ (omega arith))
-    swing-place Pc.S3 i l = sit c _ (omega arith)
-    swing-place Pc.Unknown i l = absurd (l .fine refl)
+    swing-place p i l = every (λ (p : Pc). Look g v t p r i → swing r ≡ swingOf (owe p) (r .rcount) → At K p (does g p r i)) (search (two, kT3, kK3, kE3, kReclaim, kC1, either, leaf, size-0, stays, none, kept, pick-all Calm, all-passed Calm g, all-checked Calm g, all-emptied Calm g, all-from Calm g, all-examined Calm g, all-shut Calm g) depth 16 fits 8000) p l (held p r (l .place)) .holds

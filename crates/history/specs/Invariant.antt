@@ -239,7 +239,7 @@ module _ (g : Settings) (C : Chosen g) (s : State) (h : List Event) (I : Inv g s
           records = record-begin g v (A .records) t (inside t ht) q o a;
           zone = zone-begin g v (A .zone) t (inside t ht) m o a (long s .rows);
           count = count-begin g v (A .count) (long s) t (inside t ht) m q o a (long s .rows);
-          tally = tally-begin g v (A .tally) (long s .rows) t (inside t ht) q o a;
+          tally = tally-begin g v (A .tally) (long s .rows) t (inside t ht) q o;
           total = total-begin g v (A .total) t (inside t ht) o;
           swing = swing-begin g v (A .swing) t (inside t ht) o;
           claim = subst (λ (c : List ℕ). ClaimsIn (enters t (begins g o) v) c (begunLists (A .lists) t o)) (sym (b .0)) (claim-begin g v (A .lists) (A .heap) (A .records) (A .zone) (claims h) (A .claim) (long s) t (inside t ht) (guard-words s (I .sized) t ht) q (long s .rows) o a);

@@ -2,8 +2,10 @@
 use Prim.Native.Nat.{ℕ, zero, suc, _+_, _-_, _^_, _<_}
 use mathlib.Core.Path.{_≡_, refl, sym, ap, _∙_, subst}
 use mathlib.Core.Bool.{Bool, true, false}
+use mathlib.Core.List.{List, [], _∷_}
 use native.Mathlib.Decide.{decLt}
 use native.Mathlib.Omega.{arith}
+use lib.Dec.{eqb}
 use lib.ListN.{List·getD-eq-default}
 use Rattle.base.specs.Pick.{pick}
 use Rattle.rules.specs.Pc
@@ -65,6 +67,11 @@ pc-of-code Pc.Unknown = refl
 pub pc-is : {n : ℕ} (p : Pc) → n ≡ code p → pcOf n ≡ p
 pc-is p e = ap pcOf e ∙ pc-of-code p
 
+-- a class of places: what the list says of a place, else c
+abbrev pub classed : {C : Type 0} → C → List (Pc × C) → Pc → C
+classed c [] p = c
+classed c (x ∷ l) p = pick (eqb (code p) (code (x .0))) (x .1) (classed c l p)
+
 -- both, as a type of its own, which `search` proves by `two`
 pub record Two (A B : Type 0) : Type 0 where
   pub one : A
@@ -106,6 +113,9 @@ pick-case P false x y p q = q refl
 -- ---- what a layer says of a place p and an effect e, as a type of its own, which `search` does not look into
 pub record At (K : Pc → Effect → Type 0) (p : Pc) (e : Effect) : Type 0 where
   pub holds : K p e
+
+pub thus : {K : Pc → Effect → Type 0} {p : Pc} {e : Effect} → K p e → At K p e
+thus k = record { holds = k }
 
 pub either : {K : Pc → Effect → Type 0} {p : Pc} (b : Bool) (x y : Effect) → At K p x → At K p y → At K p (pick b x y)
 either {K} {p} b x y h k = pick-all (At K p) b x y h k
