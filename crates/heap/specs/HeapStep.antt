@@ -18,7 +18,7 @@ use Rattle.rules.specs.Pc.{Pc, pcOf, code}
 use Rattle.rules.specs.Rows
 use Rattle.rules.specs.Rows.{idle, goTo, inShard, seeing, withLone, keeping, reclaiming, withDone, stealing, freeing, freed, taking, shardIn, first, stolenFrom}
 use Rattle.rules.specs.Places
-use Rattle.rules.specs.Places.{accesses, does, ends, becomes, stores, also, done, reclaims, passed, emptied, examined, reclaimed, shutNext}
+use Rattle.rules.specs.Places.{checked, accesses, does, ends, becomes, stores, also, done, reclaims, passed, emptied, examined, reclaimed, shutNext}
 use Rattle.rules.specs.declared.Row.{Row}
 use Rattle.rules.specs.declared.Seen.{Seen}
 use Rattle.rules.specs.declared.Effect.{Effect}
@@ -37,7 +37,7 @@ use Rattle.lists.specs.Heap
 use Rattle.lists.specs.Heap.{Heap, waits}
 use Rattle.view.specs.View.{View, InTable, named, get, applies}
 use Rattle.view.specs.Ranges.{limit}
-use Rattle.view.specs.Every.{pc-is, pick-all, pick-case}
+use Rattle.view.specs.Every.{pc-is, every, every-start, two, At, thus, either, pick-all, pick-case}
 use Rattle.view.specs.Turn.{rowIn, Look, sees}
 use Rattle.heap.specs.Hooks.{hooks, slot, loose, hv, toReclaim, toKeep, alone, slot-slot, slot-shard, shard-in, hook-stolen, hook-reclaim, hook-keep, hook-alone, get-stolen, get-reclaim, get-keep, get-alone}
 use Rattle.heap.specs.Stage
@@ -112,6 +112,25 @@ module _ (g : Settings) (A : Allowed g) (v : View) (ls : List (List ℕ)) (I : H
   leaves : ShapeOf g Stage.clean r → HeapAt g next st sh (set rows t idle) ls
   leaves c = Moves.quiet g next st sh rows ls I t ht idle (idle-hooks g A r c) (idle-clean g A) (record { tail = λ z. absurd (z refl); lone = λ z. absurd (z refl) })
 
+  -- a row that may stand after a step at p that changes no list
+  record Sat (p : Pc) (x : Row) : Type 0 where
+    pub heap : HeapAt g next st sh (set rows t x) ls
+
+  on : {p : Pc} {x : Row} → Shape g x → hooks x ≡ hooks r → x .unreclaimed ≡ r .unreclaimed → x .tail ≡ r .tail → x .lone ≡ r .lone → Sat p x
+  on {p} {x} s a b c d = record { heap = goes x a b c d s }
+
+  stays : {p : Pc} {x : Row} → r .place ≡ code p → x .place ≡ r .place → ShapeOf g (stage p) x → hooks x ≡ hooks r → x .unreclaimed ≡ r .unreclaimed → x .tail ≡ r .tail → x .lone ≡ r .lone → Sat p x
+  stays {p} {x} e q s a b c d = record { heap = goes x a b c d (shaped g A p x (q ∙ e) s) }
+
+  rests : {p : Pc} → ShapeOf g Stage.clean r → Sat p idle
+  rests c = record { heap = leaves c }
+
+  checks : {p : Pc} (x : Row) → ShapeOf g Stage.clean x → hooks x ≡ hooks r → x .unreclaimed ≡ r .unreclaimed → x .tail ≡ r .tail → x .lone ≡ r .lone → Sat p (checked x)
+  checks x s a b c d = let z = seat-checked g A x s in record { heap = goes (checked x) (z .hooks ∙ a) (z .unreclaimed ∙ b) (z .tail ∙ c) (z .lone ∙ d) (z .shape) }
+
+  leaf : (i : Seen) {p : Pc} {e : Effect} → applies t (named (accesses p r)) e v .nodes .next ≡ next → applies t (named (accesses p r)) e v .nodes .state ≡ st → applies t (named (accesses p r)) e v .heads .shards ≡ sh → applies t (named (accesses p r)) e v .rows ≡ set rows t (e .row) → Sat p (e .row) → At (λ (p : Pc) (e : Effect). K p i e) p e
+  leaf i {p} {e} a b c d k = thus (still (rw (a, b, c, d) (k .heap)))
+
   -- ---- the lists of the slots that a move leaves
   un-two : (i j q : ℕ) (la lb : List ℕ) → q ≢ i → q ≢ j → (n : ℕ) → occ n (getD (set (set ls (slot t i) la) (slot t j) lb) (slot t q) []) ≡ occ n (getD ls (slot t q) [])
   un-two i j q la lb a b n = ap (occ n) (getD-set-other (set ls (slot t i) la) (slot t j) (slot t q) lb [] (slot-slot t q j b) ∙ getD-set-other ls (slot t i) (slot t q) la [] (slot-slot t q i a))
@@ -127,11 +146,8 @@ module _ (g : Settings) (A : Allowed g) (v : View) (ls : List (List ℕ)) (I : H
   once k n hk = Heap.nodup loose next st (hv sh rows) ls (I .heap) k (shard-in sh rows (I .h8) (I .h11) k hk) n
 
   -- ---- retire
-  kT1 : (i : Seen) → Look g v t Pc.T1 r i → K Pc.T1 i (does g Pc.T1 r i)
-  kT1 i l = still (goes _ refl refl refl refl (shape Pc.T1 (l .place)))
-
-  kT2 : (i : Seen) → Look g v t Pc.T2 r i → K Pc.T2 i (does g Pc.T2 r i)
-  kT2 i l = pick-case (K Pc.T2 i) (eqb (i .v) (r .seen)) _ _ (λ e. pick-all (K Pc.T2 i) (i .flag) _ _ lost (won (eqb-true (i .v) (r .seen) e))) (λ _. lost)
+  kT2 : (i : Seen) → Look g v t Pc.T2 r i → At (λ (p : Pc) (e : Effect). K p i e) Pc.T2 (does g Pc.T2 r i)
+  kT2 i l = thus (pick-case (K Pc.T2 i) (eqb (i .v) (r .seen)) _ _ (λ e. pick-all (K Pc.T2 i) (i .flag) _ _ lost (won (eqb-true (i .v) (r .seen) e))) (λ _. lost))
     where
       c : ShapeOf g Stage.lone r
       c = shape Pc.T2 (l .place)
@@ -166,14 +182,14 @@ module _ (g : Settings) (A : Allowed g) (v : View) (ls : List (List ℕ)) (I : H
   k-is : r .shard < g .shards → shardIn r ≡ r .shard
   k-is h = let a = A .most in omega arith
 
-  kSteal : (i : Seen) → Look g v t Pc.Steal r i → K Pc.Steal i (does g Pc.Steal r i)
+  kSteal : (i : Seen) → Look g v t Pc.Steal r i → At (λ (p : Pc) (e : Effect). K p i e) Pc.Steal (does g Pc.Steal r i)
   kSteal i l =
-      pick-case (K Pc.Steal i) (eqb (shardIn r + 1) (g .shards)) _ _
+      thus (pick-case (K Pc.Steal i) (eqb (shardIn r + 1) (g .shards)) _ _
       (λ e. pick-case (K Pc.Steal i) (eqb (stolenFrom (r₁ .stolen) 0 (g .shards)) (g .shards)) _ _
       (λ q. let w = withDone 2 r₁ in let z = seat-passed g A w (record { eight = eight₁; none = λ j _. all j (eqb-true _ (g .shards) q) (decLe (g .shards) j) (eqb-true (shardIn r + 1) (g .shards) e); reclaim = c .reclaim; keep = c .keep; lone = c .lone; here = tt }) in
       steals (passed w) (z .hooks) (z .shape) (z .unreclaimed ∙ c .keep) (z .lone ∙ c .lone))
       (λ q. steals (goTo Pc.H1 r₁) refl (record { eight = eight₁; none = λ j h. past j (let a = eqb-true (shardIn r + 1) (g .shards) e in omega arith); reclaim = c .reclaim; keep = c .keep; lone = c .lone; here = tt }) (c .keep) (c .lone)))
-      (λ e. steals (inShard (shardIn r + 1) r₁) refl (shaped g A Pc.Steal (inShard (shardIn r + 1) r₁) (l .place) (record { eight = eight₁; none = λ j h. past j (omega arith); reclaim = c .reclaim; keep = c .keep; lone = c .lone; here = let a = eqb-false (shardIn r + 1) (g .shards) e in let b = c .here in let d = k-is (c .here) in omega arith })) (c .keep) (c .lone))
+      (λ e. steals (inShard (shardIn r + 1) r₁) refl (shaped g A Pc.Steal (inShard (shardIn r + 1) r₁) (l .place) (record { eight = eight₁; none = λ j h. past j (omega arith); reclaim = c .reclaim; keep = c .keep; lone = c .lone; here = let a = eqb-false (shardIn r + 1) (g .shards) e in let b = c .here in let d = k-is (c .here) in omega arith })) (c .keep) (c .lone)))
     where
       c : ShapeOf g Stage.steals r
       c = shape Pc.Steal (l .place)
@@ -221,14 +237,14 @@ module _ (g : Settings) (A : Allowed g) (v : View) (ls : List (List ℕ)) (I : H
       above j (inl h) = absurd (omega arith)
       above j (inr h) = h
 
-  kH1 : (i : Seen) → Look g v t Pc.H1 r i → K Pc.H1 i (does g Pc.H1 r i)
-  kH1 i l = let c = shape Pc.H1 (l .place) in pick-all (K Pc.H1 i) (eqb (i .v) 0) _ _ (still (sit _ (scanned c))) (still (goes _ refl refl refl refl c))
+  kH1 : (i : Seen) → Look g v t Pc.H1 r i → At (λ (p : Pc) (e : Effect). K p i e) Pc.H1 (does g Pc.H1 r i)
+  kH1 i l = thus (let c = shape Pc.H1 (l .place) in pick-all (K Pc.H1 i) (eqb (i .v) 0) _ _ (still (sit _ (scanned c))) (still (goes _ refl refl refl refl c)))
 
-  kH2 : (i : Seen) → Look g v t Pc.H2 r i → K Pc.H2 i (does g Pc.H2 r i)
-  kH2 i l = let c = shape Pc.H2 (l .place) in pick-all (K Pc.H2 i) (eqb (i .w) 0) _ _ (still (sit _ (scanned c))) (still (goes (Rows.withRec (i .w) r) refl refl refl refl (shaped g A Pc.H2 (Rows.withRec (i .w) r) (l .place) c)))
+  kH2 : (i : Seen) → Look g v t Pc.H2 r i → At (λ (p : Pc) (e : Effect). K p i e) Pc.H2 (does g Pc.H2 r i)
+  kH2 i l = thus (let c = shape Pc.H2 (l .place) in pick-all (K Pc.H2 i) (eqb (i .w) 0) _ _ (still (sit _ (scanned c))) (still (goes (Rows.withRec (i .w) r) refl refl refl refl (shaped g A Pc.H2 (Rows.withRec (i .w) r) (l .place) c))))
 
-  kExamine : (i : Seen) → Look g v t Pc.Examine r i → K Pc.Examine i (does g Pc.Examine r i)
-  kExamine i l = pick-case (K Pc.Examine i) (i .guarded) _ _ (λ _. kept) (λ q. unguarded q)
+  kExamine : (i : Seen) → Look g v t Pc.Examine r i → At (λ (p : Pc) (e : Effect). K p i e) Pc.Examine (does g Pc.Examine r i)
+  kExamine i l = thus (pick-case (K Pc.Examine i) (i .guarded) _ _ (λ _. kept) (λ q. unguarded q))
     where
       c : ShapeOf g Stage.examines r
       c = shape Pc.Examine (l .place)
@@ -340,19 +356,19 @@ module _ (g : Settings) (A : Allowed g) (v : View) (ls : List (List ℕ)) (I : H
       m = Moves.free g next st sh rows ls I t ht (r .reclaimable) x (get-reclaim (r .stolen) (r .reclaimable) (r .unreclaimed) (r .lone) h8) nz e s
           (λ rest. Moves.ends-same g next st sh rows ls I t ht (set ls (slot t toReclaim) rest) x (same rest toKeep (omega arith)) (same rest alone (omega arith)) eu et el)
 
-  kReclaim : (i : Seen) → Look g v t Pc.Reclaim r i → K Pc.Reclaim i (does g Pc.Reclaim r i)
+  kReclaim : (i : Seen) → Look g v t Pc.Reclaim r i → At (λ (p : Pc) (e : Effect). K p i e) Pc.Reclaim (does g Pc.Reclaim r i)
   kReclaim i l =
-      let c : ShapeOf g Stage.reclaims r = shape Pc.Reclaim (l .place) in
+      thus (let c : ShapeOf g Stage.reclaims r = shape Pc.Reclaim (l .place) in
       let x : Row = freeing (reclaiming (i .v) r) in
       let z = seat-reclaimed g A (i .v) x (l .place) (c .here) refl (record { eight = c .eight; none = c .none; reclaim = tt; keep = tt; lone = c .lone; here = tt }) in
-      frees Pc.Reclaim i (reclaimed g (i .v) x) (c .eight) (c .reclaim) (z .hooks ∙ hook-reclaim (r .stolen) (r .reclaimable) (r .unreclaimed) (r .lone) (c .eight) (i .v) ∙ ap (set (hooks r) toReclaim) (sees l tt refl .0)) (z .shape) (z .unreclaimed) (z .tail) (z .lone)
+      frees Pc.Reclaim i (reclaimed g (i .v) x) (c .eight) (c .reclaim) (z .hooks ∙ hook-reclaim (r .stolen) (r .reclaimable) (r .unreclaimed) (r .lone) (c .eight) (i .v) ∙ ap (set (hooks r) toReclaim) (sees l tt refl .0)) (z .shape) (z .unreclaimed) (z .tail) (z .lone))
 
-  kEmpty : (i : Seen) → Look g v t Pc.Empty r i → K Pc.Empty i (does g Pc.Empty r i)
+  kEmpty : (i : Seen) → Look g v t Pc.Empty r i → At (λ (p : Pc) (e : Effect). K p i e) Pc.Empty (does g Pc.Empty r i)
   kEmpty i l =
-      pick-all (K Pc.Empty i) (eqb (i .v) 0) _ _
+      thus (pick-all (K Pc.Empty i) (eqb (i .v) 0) _ _
       (pick-case (K Pc.Empty i) (eqb (shardIn r + 1) (g .shards)) _ _ (λ _. on (withDone 2 r) c₀ refl refl refl refl)
       (λ e. still (goes (inShard (shardIn r + 1) r) refl refl refl refl (shaped g A Pc.Empty (inShard (shardIn r + 1) r) (l .place) (record { eight = c .eight; none = c .none; reclaim = c .reclaim; keep = tt; lone = c .lone; here = let a = eqb-false (shardIn r + 1) (g .shards) e in let b = c .here in let d = k-is (c .here) in omega arith })))))
-      (on (withDone 1 r) c₀ refl refl refl refl)
+      (on (withDone 1 r) c₀ refl refl refl refl))
     where
       c : ShapeOf g Stage.empties r
       c = shape Pc.Empty (l .place)
@@ -365,11 +381,8 @@ module _ (g : Settings) (A : Allowed g) (v : View) (ls : List (List ℕ)) (I : H
           let z = seat-emptied g A x q in
           still (goes (emptied x) (z .hooks ∙ e) (z .unreclaimed ∙ f) (z .tail ∙ h) (z .lone ∙ k) (z .shape))
 
-  kPush1 : (i : Seen) → Look g v t Pc.Push1 r i → K Pc.Push1 i (does g Pc.Push1 r i)
-  kPush1 i l = still (goes _ refl refl refl refl (shape Pc.Push1 (l .place)))
-
-  kPush2 : (i : Seen) → Look g v t Pc.Push2 r i → K Pc.Push2 i (does g Pc.Push2 r i)
-  kPush2 i l = pick-case (K Pc.Push2 i) (eqb (i .v) (r .seen)) _ _ (λ e. pick-all (K Pc.Push2 i) (i .flag) _ _ lost (won (eqb-true (i .v) (r .seen) e))) (λ _. lost)
+  kPush2 : (i : Seen) → Look g v t Pc.Push2 r i → At (λ (p : Pc) (e : Effect). K p i e) Pc.Push2 (does g Pc.Push2 r i)
+  kPush2 i l = thus (pick-case (K Pc.Push2 i) (eqb (i .v) (r .seen)) _ _ (λ e. pick-all (K Pc.Push2 i) (i .flag) _ _ lost (won (eqb-true (i .v) (r .seen) e))) (λ _. lost))
     where
       c : ShapeOf g Stage.pushes r
       c = shape Pc.Push2 (l .place)
@@ -399,12 +412,12 @@ module _ (g : Settings) (A : Allowed g) (v : View) (ls : List (List ℕ)) (I : H
           (shaped g A Pc.Push2 (seeing (i .v) r) (l .place) c) (Moves.ends-same g next st sh rows ls I t ht ls (seeing (i .v) r) refl refl refl refl refl))
 
   -- ---- shutdown
-  kS1 : (i : Seen) → Look g v t Pc.S1 r i → K Pc.S1 i (does g Pc.S1 r i)
+  kS1 : (i : Seen) → Look g v t Pc.S1 r i → At (λ (p : Pc) (e : Effect). K p i e) Pc.S1 (does g Pc.S1 r i)
   kS1 i l =
-      pick-case (K Pc.S1 i) (eqb (i .v) 0) _ _
+      thus (pick-case (K Pc.S1 i) (eqb (i .v) 0) _ _
       (λ e. let z = seat-shut g A r c₀ (c .here) in
       takes (shutNext g r) (z .hooks ∙ ap (λ (a : ℕ). r .stolen ++ (a ∷ r .unreclaimed ∷ r .lone ∷ [])) (c .reclaim ∙ sym (eqb-true (i .v) 0 e))) (z .shape) (z .unreclaimed) (z .lone))
-      (λ e. takes (goTo Pc.S2 (reclaiming (i .v) r)) refl (record { eight = c .eight; none = c .none; reclaim = eqb-false (i .v) 0 e; keep = c .keep; lone = c .lone; here = c .here }) refl refl)
+      (λ e. takes (goTo Pc.S2 (reclaiming (i .v) r)) refl (record { eight = c .eight; none = c .none; reclaim = eqb-false (i .v) 0 e; keep = c .keep; lone = c .lone; here = c .here }) refl refl))
     where
       c : ShapeOf g Stage.shuts r
       c = shape Pc.S1 (l .place)
@@ -429,8 +442,8 @@ module _ (g : Settings) (A : Allowed g) (v : View) (ls : List (List ℕ)) (I : H
         reclaim = λ n. let w = ap (occ n) (getD-set-same (set ls (r .shard) []) (slot t toReclaim) (getD ls (r .shard) []) [] (rw length-set (in-lists toReclaim (omega arith)))) in let y = once (r .shard) n k8 in omega arith;
       }
 
-  kS2 : (i : Seen) → Look g v t Pc.S2 r i → K Pc.S2 i (does g Pc.S2 r i)
-  kS2 i l = frees Pc.S2 i (pick (eqb (i .v) 0) (shutNext g x) x) (c .eight) (c .reclaim) (z .hooks ∙ hook-reclaim (r .stolen) (r .reclaimable) (r .unreclaimed) (r .lone) (c .eight) (i .v) ∙ ap (set (hooks r) toReclaim) (sees l tt refl .0)) (z .shape) (z .unreclaimed) (z .tail) (z .lone)
+  kS2 : (i : Seen) → Look g v t Pc.S2 r i → At (λ (p : Pc) (e : Effect). K p i e) Pc.S2 (does g Pc.S2 r i)
+  kS2 i l = thus (frees Pc.S2 i (pick (eqb (i .v) 0) (shutNext g x) x) (c .eight) (c .reclaim) (z .hooks ∙ hook-reclaim (r .stolen) (r .reclaimable) (r .unreclaimed) (r .lone) (c .eight) (i .v) ∙ ap (set (hooks r) toReclaim) (sees l tt refl .0)) (z .shape) (z .unreclaimed) (z .tail) (z .lone))
     where
       c : ShapeOf g Stage.frees r
       c = shape Pc.S2 (l .place)
@@ -444,11 +457,11 @@ module _ (g : Settings) (A : Allowed g) (v : View) (ls : List (List ℕ)) (I : H
           (λ e. record { shape = shaped g A Pc.S2 x (l .place) (record { eight = c .eight; none = c .none; reclaim = eqb-false (i .v) 0 e; keep = c .keep; lone = c .lone; here = c .here }); hooks = refl; unreclaimed = refl; tail = refl; lone = refl })
 
   -- ---- a swap makes a free node live: neither state waits
-  kSwap : (i : Seen) → Look g v t Pc.Swap r i → K Pc.Swap i (does g Pc.Swap r i)
+  kSwap : (i : Seen) → Look g v t Pc.Swap r i → At (λ (p : Pc) (e : Effect). K p i e) Pc.Swap (does g Pc.Swap r i)
   kSwap i l =
-      pick-all (K Pc.Swap i) (eqb (i .w) 2) _ _ (still (leaves c))
+      thus (pick-all (K Pc.Swap i) (eqb (i .w) 2) _ _ (still (leaves c))
       (pick-case (K Pc.Swap i) (eqb (r .node) 0) _ _ (λ _. still (leaves c))
-      (λ e. pick-case (K Pc.Swap i) (eqb (i .w) 0) _ _ (λ q. live e (eqb-true (i .w) 0 q)) (λ _. still (leaves c))))
+      (λ e. pick-case (K Pc.Swap i) (eqb (i .w) 0) _ _ (λ q. live e (eqb-true (i .w) 0 q)) (λ _. still (leaves c)))))
     where
       c : ShapeOf g Stage.clean r
       c = shape Pc.Swap (l .place)
@@ -468,55 +481,11 @@ module _ (g : Settings) (A : Allowed g) (v : View) (ls : List (List ℕ)) (I : H
           same m (no q) d = rw (getD-set-other st (r .node) m 1 0 q)
 
   -- ---- every place
+  kB1 : ShapeOf g Stage.clean r → Sat Pc.B1 (Places.newPass r)
+  kB1 c = on {x = Places.newPass r} (record { eight = c .eight; none = λ j _. c .none j tt; reclaim = c .reclaim; keep = c .keep; lone = c .lone; here = A .some }) refl refl refl refl
+
   pub heap-place : (p : Pc) (i : Seen) → Look g v t p r i → K p i (does g p r i)
-  heap-place Pc.Idle i l = absurd (l .fine refl)
-  heap-place Pc.A1 i l = let c = shape Pc.A1 (l .place) in pick-all (K Pc.A1 i) (locked (i .v)) _ _ (still (goes (r) refl refl refl refl (shaped g A Pc.A1 (r) (l .place) c))) (pick-all (K Pc.A1 i) (eqb (i .v) 0) _ _ (still (goes _ refl refl refl refl c)) (still (goes _ refl refl refl refl c)))
-  heap-place Pc.A2 i l = let c = shape Pc.A2 (l .place) in pick-all (K Pc.A2 i) (eqb (i .v) (r .rec * 2)) _ _ (pick-all (K Pc.A2 i) (i .flag) _ _ (still (goes _ refl refl refl refl c)) (still (goes _ refl refl refl refl c))) (still (goes _ refl refl refl refl c))
-  heap-place Pc.A3 i l = let c = shape Pc.A3 (l .place) in still (goes _ refl refl refl refl c)
-  heap-place Pc.A4 i l = let c = shape Pc.A4 (l .place) in still (goes _ refl refl refl refl c)
-  heap-place Pc.A5 i l = let c = shape Pc.A5 (l .place) in still (goes _ refl refl refl refl c)
-  heap-place Pc.A6 i l = let c = shape Pc.A6 (l .place) in still (leaves c)
-  heap-place Pc.N1 i l = let c = shape Pc.N1 (l .place) in pick-all (K Pc.N1 i) (eqb (i .untaken) 0) _ _ (still (leaves c)) (still (goes _ refl refl refl refl c))
-  heap-place Pc.N2 i l = let c = shape Pc.N2 (l .place) in pick-all (K Pc.N2 i) (eqb (i .v) (r .next)) _ _ (pick-all (K Pc.N2 i) (i .flag) _ _ (still (goes (Rows.withNext (i .v) r) refl refl refl refl (shaped g A Pc.N2 (Rows.withNext (i .v) r) (l .place) c))) (still (goes _ refl refl refl refl c))) (still (goes (Rows.withNext (i .v) r) refl refl refl refl (shaped g A Pc.N2 (Rows.withNext (i .v) r) (l .place) c)))
-  heap-place Pc.N3 i l = let c = shape Pc.N3 (l .place) in still (leaves c)
-  heap-place Pc.D1 i l = let c = shape Pc.D1 (l .place) in still (goes _ refl refl refl refl c)
-  heap-place Pc.D2 i l = let c = shape Pc.D2 (l .place) in pick-all (K Pc.D2 i) (eqb (i .v) 0) _ _ (still (goes _ refl refl refl refl c)) (still (goes (r) refl refl refl refl (shaped g A Pc.D2 (r) (l .place) c)))
-  heap-place Pc.P1 i l = let c = shape Pc.P1 (l .place) in pick-all (K Pc.P1 i) (locked (i .v)) _ _ (still (goes (r) refl refl refl refl (shaped g A Pc.P1 (r) (l .place) c))) (still (goes _ refl refl refl refl c))
-  heap-place Pc.P2 i l = let c = shape Pc.P2 (l .place) in still (goes _ refl refl refl refl c)
-  heap-place Pc.P3 i l = let c = shape Pc.P3 (l .place) in pick-all (K Pc.P3 i) (eqb (i .v) (r .next * 2)) _ _ (pick-all (K Pc.P3 i) (i .flag) _ _ (still (goes _ refl refl refl refl c)) (still (leaves c))) (still (goes _ refl refl refl refl c))
-  heap-place Pc.V0 i l = let c = shape Pc.V0 (l .place) in still (goes _ refl refl refl refl c)
-  heap-place Pc.V1 i l = let c = shape Pc.V1 (l .place) in still (goes _ refl refl refl refl c)
-  heap-place Pc.V2 i l = let c = shape Pc.V2 (l .place) in pick-all (K Pc.V2 i) (eqb (i .v) (r .node)) _ _ (still (leaves c)) (still (goes _ refl refl refl refl c))
-  heap-place Pc.V3 i l = let c = shape Pc.V3 (l .place) in pick-all (K Pc.V3 i) (eqb (r .operation) 3) _ _ (still (goes _ refl refl refl refl c)) (still (leaves c))
-  heap-place Pc.Reset i l = let c = shape Pc.Reset (l .place) in still (leaves c)
-  heap-place Pc.Raw i l = let c = shape Pc.Raw (l .place) in still (leaves c)
-  heap-place Pc.Swap i l = kSwap i l
-  heap-place Pc.T1 i l = kT1 i l
-  heap-place Pc.T2 i l = kT2 i l
-  heap-place Pc.T3 i l = let c = shape Pc.T3 (l .place) in still (goes _ refl refl refl refl c)
-  heap-place Pc.K1 i l = let c = shape Pc.K1 (l .place) in still (goes _ refl refl refl refl c)
-  heap-place Pc.K2 i l = let c = shape Pc.K2 (l .place) in pick-all (K Pc.K2 i) (over g (r .count) (i .x)) _ _ (still (goes _ refl refl refl refl c)) (let z = seat-checked g A (taking 0 r) c in still (goes _ (z .hooks) (z .unreclaimed) (z .tail) (z .lone) (z .shape)))
-  heap-place Pc.K3 i l = let c = shape Pc.K3 (l .place) in pick-all (K Pc.K3 i) (eqb (i .x) (r .count)) _ _ (pick-all (K Pc.K3 i) (i .flag) _ _ (still (goes _ refl refl refl refl c)) (still (goes _ refl refl refl refl c))) (still (goes _ refl refl refl refl c))
-  heap-place Pc.K4 i l = let c = shape Pc.K4 (l .place) in let z = seat-checked g A r c in still (goes _ (z .hooks) (z .unreclaimed) (z .tail) (z .lone) (z .shape))
-  heap-place Pc.E1 i l = let c = shape Pc.E1 (l .place) in pick-all (K Pc.E1 i) ((g .due) (i .clock) (i .x)) _ _ (still (goes _ refl refl refl refl c)) (still (leaves c))
-  heap-place Pc.E2 i l = let c = shape Pc.E2 (l .place) in pick-all (K Pc.E2 i) (eqb (i .x) (r .due)) _ _ (still (goes _ refl refl refl refl c)) (still (leaves c))
-  heap-place Pc.E3 i l = let c = shape Pc.E3 (l .place) in pick-all (K Pc.E3 i) (eqb (i .x) 0) _ _ (still (leaves c)) (still (goes _ refl refl refl refl c))
-  heap-place Pc.B1 i l = let c = shape Pc.B1 (l .place) in still (goes _ refl refl refl refl (record { eight = c .eight; none = λ j _. c .none j tt; reclaim = c .reclaim; keep = c .keep; lone = c .lone; here = A .some }))
-  heap-place Pc.Steal i l = kSteal i l
-  heap-place Pc.H1 i l = kH1 i l
-  heap-place Pc.H2 i l = kH2 i l
-  heap-place Pc.Examine i l = kExamine i l
-  heap-place Pc.Reclaim i l = kReclaim i l
-  heap-place Pc.Empty i l = kEmpty i l
-  heap-place Pc.Push1 i l = kPush1 i l
-  heap-place Pc.Push2 i l = kPush2 i l
-  heap-place Pc.C1 i l = let c = shape Pc.C1 (l .place) in still (goes _ refl refl refl refl c)
-  heap-place Pc.C3 i l = let c = shape Pc.C3 (l .place) in pick-all (K Pc.C3 i) (eqb (r .operation) 11) _ _ (still (goes _ refl refl refl refl c)) (still (leaves c))
-  heap-place Pc.Wait i l = let c = shape Pc.Wait (l .place) in pick-all (K Pc.Wait i) (eqb (i .x) 0) _ _ (still (leaves c)) (still (goes (r) refl refl refl refl (shaped g A Pc.Wait (r) (l .place) c)))
-  heap-place Pc.S1 i l = kS1 i l
-  heap-place Pc.S2 i l = kS2 i l
-  heap-place Pc.S3 i l = let c = shape Pc.S3 (l .place) in still (leaves c)
-  heap-place Pc.Unknown i l = absurd (l .fine refl)
+  heap-place p i l = every (λ (p : Pc). Look g v t p r i → r .place ≡ code p → ShapeOf g (stage p) r → At (λ (p : Pc) (e : Effect). K p i e) p (does g p r i)) (search (two, kSwap i, kT2 i, kSteal i, kH1 i, kH2 i, kExamine i, kReclaim i, kEmpty i, kPush2 i, kS1 i, kS2 i, either, leaf i, kB1, rests, checks, on, stays) depth 16 fits 8000) p l (l .place) (shape p (l .place)) .holds
 
   -- 25 and 26 end the operation
   clean-at : (pcOf (r .place) ≡ Pc.N1) ⊎ (pcOf (r .place) ≡ Pc.Swap) → ShapeOf g Stage.clean r
@@ -535,23 +504,19 @@ module _ (g : Settings) (A : Allowed g) (v : View) (ls : List (List ℕ)) (I : H
     fresh : (x : Row) → hooks x ≡ hooks idle → x .unreclaimed ≡ 0 → x .lone ≡ 0 → Shape g x → HeapAt g next st sh (set rows t x) ls
     fresh x eh eu el s = Moves.quiet g next st sh rows ls I t ht x (eh ∙ idle-hooks g A r c) s (record { tail = λ z. absurd (z eu); lone = λ z. absurd (z el) })
 
-    pub heap-begin : (o : Operation) → Admitted v t o → length next ≡ suc nodes → ((x : ℕ) → shardOf g x < g .shards) → HeapIn g (enters t (begins g o) v) (begunLists ls t o)
+    retire : (n x : ℕ) → Admitted v t (Retire n x) → length next ≡ suc nodes → shardOf g x < g .shards → HeapIn g (enters t (begins g (Retire n x)) v) (begunLists ls t (Retire n x))
     unfolding begins
-    heap-begin Acquire a ln hs = fresh _ refl refl refl (idle-clean g A)
-    heap-begin (Release x) a ln hs = fresh _ refl refl refl (idle-clean g A)
-    heap-begin (Protect x b) a ln hs = fresh _ refl refl refl (idle-clean g A)
-    heap-begin (Try x b n) a ln hs = fresh _ refl refl refl (idle-clean g A)
-    heap-begin (TryProtect x b n) a ln hs = fresh _ refl refl refl (idle-clean g A)
-    heap-begin (Reset x) a ln hs = fresh _ refl refl refl (idle-clean g A)
-    heap-begin (Raw x n) a ln hs = fresh _ refl refl refl (idle-clean g A)
-    heap-begin (Swap b n) a ln hs = fresh _ refl refl refl (idle-clean g A)
-    heap-begin (Retire n x) a ln hs =
+    retire n x a ln hs =
         let q = a .0 in
         let same : narrow n ≡ n = omega arith in
         Moves.arrive g next st sh rows ls I t ht (narrow n) (freshAt 9 (code Pc.T1) 0 0 0 (narrow n) (shardOf g x)) (get-alone (r .stolen) (r .reclaimable) (r .unreclaimed) (r .lone) (c .eight) ∙ c .lone) (omega arith) (omega arith)
         (rw same (λ z. let w = a .1 in omega arith)) (ap (λ (l : List ℕ). set l alone (narrow n)) (idle-hooks g A r c))
-        (record { eight = refl; none = λ j _. zeros 8 j; reclaim = refl; keep = refl; lone = λ z. let w : narrow n ≡ 0 = z in omega arith; here = hs x })
+        (record { eight = refl; none = λ j _. zeros 8 j; reclaim = refl; keep = refl; lone = λ z. let w : narrow n ≡ 0 = z in omega arith; here = hs })
         (record { tail = λ z. absurd (z refl); lone = λ z. getD-set-same ls (slot t alone) (narrow n ∷ []) [] (in-lists alone (omega arith)) })
-    heap-begin Eager a ln hs = fresh _ refl refl refl (idle-clean g A)
-    heap-begin Cleanup a ln hs = fresh _ refl refl refl (idle-clean g A)
-    heap-begin Shutdown a ln hs = fresh _ refl refl refl (record { eight = refl; none = λ j _. zeros 8 j; reclaim = refl; keep = refl; lone = refl; here = A .some })
+
+    shutdown : ShapeOf g Stage.shuts idle
+    shutdown = record { eight = refl; none = λ j _. zeros 8 j; reclaim = refl; keep = refl; lone = refl; here = A .some }
+
+    pub heap-begin : (o : Operation) → Admitted v t o → length next ≡ suc nodes → ((x : ℕ) → shardOf g x < g .shards) → HeapIn g (enters t (begins g o) v) (begunLists ls t o)
+    unfolding begins
+    heap-begin = every-start (λ (o : Operation). Admitted v t o → length next ≡ suc nodes → ((x : ℕ) → shardOf g x < g .shards) → HeapIn g (enters t (begins g o) v) (begunLists ls t o)) (search (two, fresh, idle-clean g A, shutdown, retire))

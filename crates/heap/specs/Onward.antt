@@ -86,7 +86,7 @@ module _ (g : Settings) (A : Allowed g) where
     pub seat-shut : r .shard < g .shards → Seated g r (shutNext g r)
     unfolding shutNext
     seat-shut h =
-        pick-case (Seated g r) (eqb (shardIn r + 1) (g .shards)) _ _ (λ _. record { shape = c; hooks = refl; unreclaimed = refl; tail = refl; lone = refl })
+        pick-case (Seated g r) (eqb (shardIn r + 1) (g .shards)) (goTo Pc.S3 r) (goTo Pc.S1 (inShard (shardIn r + 1) r)) (λ _. record { shape = c; hooks = refl; unreclaimed = refl; tail = refl; lone = refl })
         (λ e. record { shape = record { eight = c .eight; none = c .none; reclaim = c .reclaim; keep = c .keep; lone = c .lone; here = let a = eqb-false (shardIn r + 1) (g .shards) e in let b = shard-in r h in omega arith }; hooks = refl; unreclaimed = refl; tail = refl; lone = refl })
 
     -- an idle row holds the same: nothing
@@ -100,7 +100,7 @@ module _ (g : Settings) (A : Allowed g) where
   pub seat-emptied : (r : Row) → Is (λ j. Unit {0}) null any null (Unit {0}) r → Seated g r (emptied r)
   unfolding emptied
   seat-emptied r c =
-      pick-case (Seated g r) (eqb (r .unreclaimed) 0) _ _
+      pick-case (Seated g r) (eqb (r .unreclaimed) 0) (passed r) (goTo Pc.Push1 r)
       (λ e. seat-passed r (record { eight = c .eight; none = c .none; reclaim = c .reclaim; keep = eqb-true (r .unreclaimed) 0 e; lone = c .lone; here = tt }))
       (λ e. record { shape = record { eight = c .eight; none = c .none; reclaim = c .reclaim; keep = eqb-false (r .unreclaimed) 0 e; lone = c .lone; here = tt }; hooks = refl; unreclaimed = refl; tail = refl; lone = refl })
 
@@ -111,7 +111,7 @@ module _ (g : Settings) (A : Allowed g) where
     where
       go : (m : ℕ) → Found (r .stolen) k (g .shards - k) m → Seated g r (examineAt g m r)
       go m f =
-          pick-case (Seated g r) (eqb m (g .shards)) _ _
+          pick-case (Seated g r) (eqb m (g .shards)) (goTo Pc.Empty (inShard 0 r)) (goTo Pc.Examine (inShard m r))
           (λ e. record {
             shape = record { eight = c .eight; none = λ j _. all j (eqb-true m (g .shards) e) (decLt j k) (decLe (g .shards) j); reclaim = c .reclaim; keep = tt; lone = c .lone; here = A .some };
             hooks = refl;
@@ -149,7 +149,7 @@ module _ (g : Settings) (A : Allowed g) where
   unfolding examined
   seat-examined n x ep hs en c =
       pick-case (Seated g x) (eqb n 0) _ _
-      (λ e. pick-case (Seated g x) (eqb (x .reclaimable) 0) _ _
+      (λ e. pick-case (Seated g x) (eqb (x .reclaimable) 0) (examineFrom g (shardIn x + 1) x) (goTo Pc.Reclaim x)
       (λ q. subst (λ (k : ℕ). Seated g x (examineFrom g (k + 1) x)) (sym (shard-in x hs))
       (seat-from (x .shard + 1) x (omega arith) (record { eight = c .eight; none = λ j h. upto j e h (ℕ-discrete j (x .shard)); reclaim = eqb-true (x .reclaimable) 0 q; keep = tt; lone = c .lone; here = tt })))
       (λ q. record { shape = record { eight = c .eight; none = λ j h. through j e h (ℕ-discrete j (x .shard)); reclaim = eqb-false (x .reclaimable) 0 q; keep = tt; lone = c .lone; here = hs }; hooks = refl; unreclaimed = refl; tail = refl; lone = refl }))

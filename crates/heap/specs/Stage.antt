@@ -15,6 +15,7 @@ use Rattle.lists.specs.Chain.{last}
 use Rattle.lists.specs.Flat.{Rows}
 use Rattle.lists.specs.Heap.{Heap}
 use Rattle.view.specs.View.{View}
+use Rattle.view.specs.Every.{classed}
 use Rattle.heap.specs.Hooks.{hooks, slot, loose, hv, toReclaim, toKeep, alone, slot-shard, slot-thread}
 
 -- settings that document 02 may choose
@@ -27,54 +28,10 @@ pub data Stage : Type 0 where
   clean lone steals scans examines reclaims empties pushes shuts frees : Stage
 
 abbrev pub stage : Pc → Stage
-stage Pc.Idle = clean
-stage Pc.A1 = clean
-stage Pc.A2 = clean
-stage Pc.A3 = clean
-stage Pc.A4 = clean
-stage Pc.A5 = clean
-stage Pc.A6 = clean
-stage Pc.N1 = clean
-stage Pc.N2 = clean
-stage Pc.N3 = clean
-stage Pc.D1 = clean
-stage Pc.D2 = clean
-stage Pc.P1 = clean
-stage Pc.P2 = clean
-stage Pc.P3 = clean
-stage Pc.V0 = clean
-stage Pc.V1 = clean
-stage Pc.V2 = clean
-stage Pc.V3 = clean
-stage Pc.Reset = clean
-stage Pc.Raw = clean
-stage Pc.Swap = clean
-stage Pc.T1 = lone
-stage Pc.T2 = lone
-stage Pc.T3 = clean
-stage Pc.K1 = clean
-stage Pc.K2 = clean
-stage Pc.K3 = clean
-stage Pc.K4 = clean
-stage Pc.E1 = clean
-stage Pc.E2 = clean
-stage Pc.E3 = clean
-stage Pc.B1 = clean
-stage Pc.Steal = steals
-stage Pc.H1 = scans
-stage Pc.H2 = scans
-stage Pc.Examine = examines
-stage Pc.Reclaim = reclaims
-stage Pc.Empty = empties
-stage Pc.Push1 = pushes
-stage Pc.Push2 = pushes
-stage Pc.C1 = clean
-stage Pc.C3 = clean
-stage Pc.Wait = clean
-stage Pc.S1 = shuts
-stage Pc.S2 = frees
-stage Pc.S3 = clean
-stage Pc.Unknown = clean
+stage =
+    classed clean
+    ((Pc.T1, lone) ∷ (Pc.T2, lone) ∷ (Pc.Steal, steals) ∷ (Pc.H1, scans) ∷ (Pc.H2, scans) ∷ (Pc.Examine, examines) ∷ (Pc.Reclaim, reclaims) ∷ (Pc.Empty, empties) ∷ (Pc.Push1, pushes)
+    ∷ (Pc.Push2, pushes) ∷ (Pc.S1, shuts) ∷ (Pc.S2, frees) ∷ [])
 
 -- ---- what the row holds: no list, some list, or any
 pub data Want : Type 0 where
