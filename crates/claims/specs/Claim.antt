@@ -16,6 +16,7 @@ use Rattle.rules.specs.declared.Row.{Row}
 use Rattle.lists.specs.Occ.{occ}
 use Rattle.lists.specs.Chain.{Seg}
 use Rattle.lists.specs.Each.{each-set}
+use Rattle.view.specs.Every.{classed}
 use Rattle.view.specs.View.{View}
 use Rattle.heap.specs.Hooks.{slot, toReclaim}
 use Rattle.heap.specs.Stage.{Others}
@@ -34,59 +35,12 @@ pub record Stolen (ls : List (List ℕ)) (u n : ℕ) : Type 0 where
 abbrev pub Guarded : List (List ℕ) → ℕ → ℕ → Type 0
 Guarded g u n = isGuarded (getD g u []) n ≡ true
 
--- ---- the scan
+-- ---- where a thread stands to the hazards: it checks that what it stored still holds, or it scans them
 pub data Scan : Type 0 where
-  before during after : Scan
+  before checks during after : Scan
 
 abbrev pub scan : Pc → Scan
-scan Pc.Idle = before
-scan Pc.A1 = before
-scan Pc.A2 = before
-scan Pc.A3 = before
-scan Pc.A4 = before
-scan Pc.A5 = before
-scan Pc.A6 = before
-scan Pc.N1 = before
-scan Pc.N2 = before
-scan Pc.N3 = before
-scan Pc.D1 = before
-scan Pc.D2 = before
-scan Pc.P1 = before
-scan Pc.P2 = before
-scan Pc.P3 = before
-scan Pc.V0 = before
-scan Pc.V1 = before
-scan Pc.V2 = before
-scan Pc.V3 = before
-scan Pc.Reset = before
-scan Pc.Raw = before
-scan Pc.Swap = before
-scan Pc.T1 = before
-scan Pc.T2 = before
-scan Pc.T3 = before
-scan Pc.K1 = before
-scan Pc.K2 = before
-scan Pc.K3 = before
-scan Pc.K4 = before
-scan Pc.E1 = before
-scan Pc.E2 = before
-scan Pc.E3 = before
-scan Pc.B1 = before
-scan Pc.Steal = before
-scan Pc.H1 = before
-scan Pc.H2 = during
-scan Pc.Examine = after
-scan Pc.Reclaim = after
-scan Pc.Empty = before
-scan Pc.Push1 = before
-scan Pc.Push2 = before
-scan Pc.C1 = before
-scan Pc.C3 = before
-scan Pc.Wait = before
-scan Pc.S1 = before
-scan Pc.S2 = before
-scan Pc.S3 = before
-scan Pc.Unknown = before
+scan = classed before ((Pc.V2, checks) ∷ (Pc.H2, during) ∷ (Pc.Examine, after) ∷ (Pc.Reclaim, after) ∷ [])
 
 -- l is a part of the list of records
 abbrev pub Part : List ℕ → ℕ → List ℕ → Type 0
@@ -95,6 +49,7 @@ Part next head l = (R : List ℕ) → Seg next head R 0 → (n : ℕ) → occ n 
 -- during it, a claimed stolen node is guarded or its record is still ahead; after it, guarded
 abbrev pub SafeOf : Scan → List ℕ → ℕ → List (List ℕ) → List ℕ → List (List ℕ) → ℕ → ℕ → Type 0
 SafeOf before next head g cl ls u rec = Unit {0}
+SafeOf checks next head g cl ls u rec = Unit {0}
 SafeOf during next head g cl ls u rec = (rest : List ℕ) × Seg next rec rest 0 × (rec ≢ 0) × Part next head rest × ((c n : ℕ) → Claim cl c n → Stolen ls u n → (1 ≤ occ c rest) ⊎ Guarded g u n)
 SafeOf after next head g cl ls u rec = (c n : ℕ) → Claim cl c n → Stolen ls u n → Guarded g u n
 
@@ -102,58 +57,14 @@ abbrev pub Safe : List ℕ → ℕ → List (List ℕ) → List ℕ → List (Li
 Safe next head g cl ls u r = SafeOf (scan (pcOf (r .place))) next head g cl ls u (r .rec)
 
 -- ---- at V2 the thread's hazard is the node that it protects
-abbrev pub ValOf : Pc → List ℕ → ℕ → ℕ → Type 0
-ValOf Pc.Idle hz rec node = Unit {0}
-ValOf Pc.A1 hz rec node = Unit {0}
-ValOf Pc.A2 hz rec node = Unit {0}
-ValOf Pc.A3 hz rec node = Unit {0}
-ValOf Pc.A4 hz rec node = Unit {0}
-ValOf Pc.A5 hz rec node = Unit {0}
-ValOf Pc.A6 hz rec node = Unit {0}
-ValOf Pc.N1 hz rec node = Unit {0}
-ValOf Pc.N2 hz rec node = Unit {0}
-ValOf Pc.N3 hz rec node = Unit {0}
-ValOf Pc.D1 hz rec node = Unit {0}
-ValOf Pc.D2 hz rec node = Unit {0}
-ValOf Pc.P1 hz rec node = Unit {0}
-ValOf Pc.P2 hz rec node = Unit {0}
-ValOf Pc.P3 hz rec node = Unit {0}
-ValOf Pc.V0 hz rec node = Unit {0}
-ValOf Pc.V1 hz rec node = Unit {0}
-ValOf Pc.V2 hz rec node = getD hz rec 0 ≡ node
-ValOf Pc.V3 hz rec node = Unit {0}
-ValOf Pc.Reset hz rec node = Unit {0}
-ValOf Pc.Raw hz rec node = Unit {0}
-ValOf Pc.Swap hz rec node = Unit {0}
-ValOf Pc.T1 hz rec node = Unit {0}
-ValOf Pc.T2 hz rec node = Unit {0}
-ValOf Pc.T3 hz rec node = Unit {0}
-ValOf Pc.K1 hz rec node = Unit {0}
-ValOf Pc.K2 hz rec node = Unit {0}
-ValOf Pc.K3 hz rec node = Unit {0}
-ValOf Pc.K4 hz rec node = Unit {0}
-ValOf Pc.E1 hz rec node = Unit {0}
-ValOf Pc.E2 hz rec node = Unit {0}
-ValOf Pc.E3 hz rec node = Unit {0}
-ValOf Pc.B1 hz rec node = Unit {0}
-ValOf Pc.Steal hz rec node = Unit {0}
-ValOf Pc.H1 hz rec node = Unit {0}
-ValOf Pc.H2 hz rec node = Unit {0}
-ValOf Pc.Examine hz rec node = Unit {0}
-ValOf Pc.Reclaim hz rec node = Unit {0}
-ValOf Pc.Empty hz rec node = Unit {0}
-ValOf Pc.Push1 hz rec node = Unit {0}
-ValOf Pc.Push2 hz rec node = Unit {0}
-ValOf Pc.C1 hz rec node = Unit {0}
-ValOf Pc.C3 hz rec node = Unit {0}
-ValOf Pc.Wait hz rec node = Unit {0}
-ValOf Pc.S1 hz rec node = Unit {0}
-ValOf Pc.S2 hz rec node = Unit {0}
-ValOf Pc.S3 hz rec node = Unit {0}
-ValOf Pc.Unknown hz rec node = Unit {0}
+abbrev pub ValOf : Scan → List ℕ → ℕ → ℕ → Type 0
+ValOf before hz rec node = Unit {0}
+ValOf checks hz rec node = getD hz rec 0 ≡ node
+ValOf during hz rec node = Unit {0}
+ValOf after hz rec node = Unit {0}
 
 abbrev pub Val : List ℕ → Row → Type 0
-Val hz r = ValOf (pcOf (r .place)) hz (r .rec) (r .node)
+Val hz r = ValOf (scan (pcOf (r .place))) hz (r .rec) (r .node)
 
 -- ---- who holds the record of a claim: its owner, or the thread that is about to give it up
 abbrev pub Keeper : List ℕ → List Row → ℕ → Type 0
@@ -184,6 +95,7 @@ pub safe-less : (p : Scan) (next : List ℕ) (head : ℕ) (g g′ : List (List �
     → ((c n : ℕ) → Claim cl′ c n → Stolen ls′ u n → Claim cl c n) → ((n : ℕ) → Stolen ls′ u n → Stolen ls u n) → ((n : ℕ) → Guarded g u n → Guarded g′ u n)
     → SafeOf p next head g cl ls u rec → SafeOf p next head g′ cl′ ls′ u rec
 safe-less before next head g g′ cl cl′ ls ls′ u rec a b d s = tt
+safe-less checks next head g g′ cl cl′ ls ls′ u rec a b d s = tt
 safe-less during next head g g′ cl cl′ ls ls′ u rec a b d s = (s .0, s .1, s .2, s .3, λ c n h m. go n (s .4 c n (a c n h m) (b n m)))
   where
     go : {A : Type 0} (n : ℕ) → A ⊎ Guarded g u n → A ⊎ Guarded g′ u n

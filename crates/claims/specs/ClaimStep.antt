@@ -36,7 +36,7 @@ use Rattle.lists.specs.Each.{each-set}
 use Rattle.view.specs.Field.{IsId, cleared}
 use Rattle.view.specs.Ranges.{limit}
 use Rattle.view.specs.View.{View, InTable, named, get, applies, enters}
-use Rattle.view.specs.Every.{pc-is, pick-all, pick-case}
+use Rattle.view.specs.Every.{pc-is, classed, every, every-start, two, At, thus, either, pick-all, pick-case}
 use Rattle.view.specs.Long.{Long}
 use Rattle.view.specs.Rest.{all-passed, all-checked, all-emptied, all-from, all-examined, all-reclaimed, all-shut}
 use Rattle.view.specs.Turn.{rowIn, Look, sees}
@@ -52,156 +52,32 @@ use Rattle.claims.specs.Claim
 use Rattle.claims.specs.Claim.{Claim, Stolen, Guarded, Scan, scan, Part, SafeOf, Safe, ValOf, Val, Keeper, Held, ClaimsAt, ClaimsIn, safe-less, stolen-other, keeper-set}
 
 -- what a step does to the claims: a store to a hazard ends its record's, and V2's answer makes one
+pub data Marking : Type 0 where
+  keeps drops makes : Marking
+
+abbrev pub marking : Pc → Marking
+marking = classed keeps ((Pc.D1, drops) ∷ (Pc.V1, drops) ∷ (Pc.V2, makes) ∷ (Pc.V3, drops) ∷ (Pc.Reset, drops) ∷ (Pc.Raw, drops) ∷ [])
+
+abbrev pub marksOf : Marking → Row → Effect → List ℕ → List ℕ
+marksOf keeps r e cl = cl
+marksOf drops r e cl = set cl (r .rec) 0
+marksOf makes r e cl = pick (eqb (e .number) 2) (set cl (r .rec) (e .value)) cl
+
 abbrev pub marks : Pc → Row → Effect → List ℕ → List ℕ
-marks Pc.Idle r e cl = cl
-marks Pc.A1 r e cl = cl
-marks Pc.A2 r e cl = cl
-marks Pc.A3 r e cl = cl
-marks Pc.A4 r e cl = cl
-marks Pc.A5 r e cl = cl
-marks Pc.A6 r e cl = cl
-marks Pc.N1 r e cl = cl
-marks Pc.N2 r e cl = cl
-marks Pc.N3 r e cl = cl
-marks Pc.D1 r e cl = set cl (r .rec) 0
-marks Pc.D2 r e cl = cl
-marks Pc.P1 r e cl = cl
-marks Pc.P2 r e cl = cl
-marks Pc.P3 r e cl = cl
-marks Pc.V0 r e cl = cl
-marks Pc.V1 r e cl = set cl (r .rec) 0
-marks Pc.V2 r e cl = pick (eqb (e .number) 2) (set cl (r .rec) (e .value)) cl
-marks Pc.V3 r e cl = set cl (r .rec) 0
-marks Pc.Reset r e cl = set cl (r .rec) 0
-marks Pc.Raw r e cl = set cl (r .rec) 0
-marks Pc.Swap r e cl = cl
-marks Pc.T1 r e cl = cl
-marks Pc.T2 r e cl = cl
-marks Pc.T3 r e cl = cl
-marks Pc.K1 r e cl = cl
-marks Pc.K2 r e cl = cl
-marks Pc.K3 r e cl = cl
-marks Pc.K4 r e cl = cl
-marks Pc.E1 r e cl = cl
-marks Pc.E2 r e cl = cl
-marks Pc.E3 r e cl = cl
-marks Pc.B1 r e cl = cl
-marks Pc.Steal r e cl = cl
-marks Pc.H1 r e cl = cl
-marks Pc.H2 r e cl = cl
-marks Pc.Examine r e cl = cl
-marks Pc.Reclaim r e cl = cl
-marks Pc.Empty r e cl = cl
-marks Pc.Push1 r e cl = cl
-marks Pc.Push2 r e cl = cl
-marks Pc.C1 r e cl = cl
-marks Pc.C3 r e cl = cl
-marks Pc.Wait r e cl = cl
-marks Pc.S1 r e cl = cl
-marks Pc.S2 r e cl = cl
-marks Pc.S3 r e cl = cl
-marks Pc.Unknown r e cl = cl
+marks p r e cl = marksOf (marking p) r e cl
 
 -- a thread that is idle or shutting down protects nothing and scans nothing
-shut-val : (p : Pc) (hz : List ℕ) (rec node : ℕ) → Shut (side p) → ValOf p hz rec node
-shut-val Pc.Idle hz rec node h = tt
-shut-val Pc.A1 hz rec node h = absurd h
-shut-val Pc.A2 hz rec node h = absurd h
-shut-val Pc.A3 hz rec node h = absurd h
-shut-val Pc.A4 hz rec node h = absurd h
-shut-val Pc.A5 hz rec node h = absurd h
-shut-val Pc.A6 hz rec node h = absurd h
-shut-val Pc.N1 hz rec node h = absurd h
-shut-val Pc.N2 hz rec node h = absurd h
-shut-val Pc.N3 hz rec node h = absurd h
-shut-val Pc.D1 hz rec node h = absurd h
-shut-val Pc.D2 hz rec node h = absurd h
-shut-val Pc.P1 hz rec node h = absurd h
-shut-val Pc.P2 hz rec node h = absurd h
-shut-val Pc.P3 hz rec node h = absurd h
-shut-val Pc.V0 hz rec node h = absurd h
-shut-val Pc.V1 hz rec node h = absurd h
-shut-val Pc.V2 hz rec node h = absurd h
-shut-val Pc.V3 hz rec node h = absurd h
-shut-val Pc.Reset hz rec node h = absurd h
-shut-val Pc.Raw hz rec node h = absurd h
-shut-val Pc.Swap hz rec node h = absurd h
-shut-val Pc.T1 hz rec node h = absurd h
-shut-val Pc.T2 hz rec node h = absurd h
-shut-val Pc.T3 hz rec node h = absurd h
-shut-val Pc.K1 hz rec node h = absurd h
-shut-val Pc.K2 hz rec node h = absurd h
-shut-val Pc.K3 hz rec node h = absurd h
-shut-val Pc.K4 hz rec node h = absurd h
-shut-val Pc.E1 hz rec node h = absurd h
-shut-val Pc.E2 hz rec node h = absurd h
-shut-val Pc.E3 hz rec node h = absurd h
-shut-val Pc.B1 hz rec node h = absurd h
-shut-val Pc.Steal hz rec node h = absurd h
-shut-val Pc.H1 hz rec node h = absurd h
-shut-val Pc.H2 hz rec node h = absurd h
-shut-val Pc.Examine hz rec node h = absurd h
-shut-val Pc.Reclaim hz rec node h = absurd h
-shut-val Pc.Empty hz rec node h = absurd h
-shut-val Pc.Push1 hz rec node h = absurd h
-shut-val Pc.Push2 hz rec node h = absurd h
-shut-val Pc.C1 hz rec node h = absurd h
-shut-val Pc.C3 hz rec node h = absurd h
-shut-val Pc.Wait hz rec node h = absurd h
-shut-val Pc.S1 hz rec node h = tt
-shut-val Pc.S2 hz rec node h = tt
-shut-val Pc.S3 hz rec node h = tt
-shut-val Pc.Unknown hz rec node h = tt
+shut-before : (p : Pc) → Shut (side p) → scan p ≡ Scan.before
+shut-before = every (λ (p : Pc). Shut (side p) → scan p ≡ Scan.before) (search (two, nobody) depth 12 fits 4000)
+  where
+    nobody : {s : Scan} → ⊥ → s ≡ Scan.before
+    nobody q = absurd q
+
+shut-val : (p : Pc) (hz : List ℕ) (rec node : ℕ) → Shut (side p) → ValOf (scan p) hz rec node
+shut-val p hz rec node h = rw (shut-before p h) tt
 
 shut-safe : (p : Pc) (next : List ℕ) (head : ℕ) (g : List (List ℕ)) (cl : List ℕ) (ls : List (List ℕ)) (u rec : ℕ) → Shut (side p) → SafeOf (scan p) next head g cl ls u rec
-shut-safe Pc.Idle next head g cl ls u rec h = tt
-shut-safe Pc.A1 next head g cl ls u rec h = absurd h
-shut-safe Pc.A2 next head g cl ls u rec h = absurd h
-shut-safe Pc.A3 next head g cl ls u rec h = absurd h
-shut-safe Pc.A4 next head g cl ls u rec h = absurd h
-shut-safe Pc.A5 next head g cl ls u rec h = absurd h
-shut-safe Pc.A6 next head g cl ls u rec h = absurd h
-shut-safe Pc.N1 next head g cl ls u rec h = absurd h
-shut-safe Pc.N2 next head g cl ls u rec h = absurd h
-shut-safe Pc.N3 next head g cl ls u rec h = absurd h
-shut-safe Pc.D1 next head g cl ls u rec h = absurd h
-shut-safe Pc.D2 next head g cl ls u rec h = absurd h
-shut-safe Pc.P1 next head g cl ls u rec h = absurd h
-shut-safe Pc.P2 next head g cl ls u rec h = absurd h
-shut-safe Pc.P3 next head g cl ls u rec h = absurd h
-shut-safe Pc.V0 next head g cl ls u rec h = absurd h
-shut-safe Pc.V1 next head g cl ls u rec h = absurd h
-shut-safe Pc.V2 next head g cl ls u rec h = absurd h
-shut-safe Pc.V3 next head g cl ls u rec h = absurd h
-shut-safe Pc.Reset next head g cl ls u rec h = absurd h
-shut-safe Pc.Raw next head g cl ls u rec h = absurd h
-shut-safe Pc.Swap next head g cl ls u rec h = absurd h
-shut-safe Pc.T1 next head g cl ls u rec h = absurd h
-shut-safe Pc.T2 next head g cl ls u rec h = absurd h
-shut-safe Pc.T3 next head g cl ls u rec h = absurd h
-shut-safe Pc.K1 next head g cl ls u rec h = absurd h
-shut-safe Pc.K2 next head g cl ls u rec h = absurd h
-shut-safe Pc.K3 next head g cl ls u rec h = absurd h
-shut-safe Pc.K4 next head g cl ls u rec h = absurd h
-shut-safe Pc.E1 next head g cl ls u rec h = absurd h
-shut-safe Pc.E2 next head g cl ls u rec h = absurd h
-shut-safe Pc.E3 next head g cl ls u rec h = absurd h
-shut-safe Pc.B1 next head g cl ls u rec h = absurd h
-shut-safe Pc.Steal next head g cl ls u rec h = absurd h
-shut-safe Pc.H1 next head g cl ls u rec h = absurd h
-shut-safe Pc.H2 next head g cl ls u rec h = absurd h
-shut-safe Pc.Examine next head g cl ls u rec h = absurd h
-shut-safe Pc.Reclaim next head g cl ls u rec h = absurd h
-shut-safe Pc.Empty next head g cl ls u rec h = absurd h
-shut-safe Pc.Push1 next head g cl ls u rec h = absurd h
-shut-safe Pc.Push2 next head g cl ls u rec h = absurd h
-shut-safe Pc.C1 next head g cl ls u rec h = absurd h
-shut-safe Pc.C3 next head g cl ls u rec h = absurd h
-shut-safe Pc.Wait next head g cl ls u rec h = absurd h
-shut-safe Pc.S1 next head g cl ls u rec h = tt
-shut-safe Pc.S2 next head g cl ls u rec h = tt
-shut-safe Pc.S3 next head g cl ls u rec h = tt
-shut-safe Pc.Unknown next head g cl ls u rec h = tt
+shut-safe p next head g cl ls u rec h = rw (shut-before p h) tt
 
 -- of a set, only that it sets and that it keeps
 guards-set : (w : List ℕ) (n : ℕ) → 0 < n → n ≤ 64 * length w → isGuarded (guarded w (guards.Set n)) n ≡ true
@@ -212,56 +88,37 @@ guards-set-kept : (w : List ℕ) (n m : ℕ) → isGuarded w m ≡ true → isGu
 unfolding guarded
 guards-set-kept w n m h = guarded-kept w n m h
 
--- what a value at V2 needs of the hazards
-val-hz : (p : Pc) (hz hz′ : List ℕ) (rec node : ℕ) → (p ≡ Pc.V2 → getD hz′ rec 0 ≡ getD hz rec 0) → ValOf p hz rec node → ValOf p hz′ rec node
-val-hz Pc.Idle hz hz′ rec node f h = tt
-val-hz Pc.A1 hz hz′ rec node f h = tt
-val-hz Pc.A2 hz hz′ rec node f h = tt
-val-hz Pc.A3 hz hz′ rec node f h = tt
-val-hz Pc.A4 hz hz′ rec node f h = tt
-val-hz Pc.A5 hz hz′ rec node f h = tt
-val-hz Pc.A6 hz hz′ rec node f h = tt
-val-hz Pc.N1 hz hz′ rec node f h = tt
-val-hz Pc.N2 hz hz′ rec node f h = tt
-val-hz Pc.N3 hz hz′ rec node f h = tt
-val-hz Pc.D1 hz hz′ rec node f h = tt
-val-hz Pc.D2 hz hz′ rec node f h = tt
-val-hz Pc.P1 hz hz′ rec node f h = tt
-val-hz Pc.P2 hz hz′ rec node f h = tt
-val-hz Pc.P3 hz hz′ rec node f h = tt
-val-hz Pc.V0 hz hz′ rec node f h = tt
-val-hz Pc.V1 hz hz′ rec node f h = tt
-val-hz Pc.V2 hz hz′ rec node f h = f refl ∙ h
-val-hz Pc.V3 hz hz′ rec node f h = tt
-val-hz Pc.Reset hz hz′ rec node f h = tt
-val-hz Pc.Raw hz hz′ rec node f h = tt
-val-hz Pc.Swap hz hz′ rec node f h = tt
-val-hz Pc.T1 hz hz′ rec node f h = tt
-val-hz Pc.T2 hz hz′ rec node f h = tt
-val-hz Pc.T3 hz hz′ rec node f h = tt
-val-hz Pc.K1 hz hz′ rec node f h = tt
-val-hz Pc.K2 hz hz′ rec node f h = tt
-val-hz Pc.K3 hz hz′ rec node f h = tt
-val-hz Pc.K4 hz hz′ rec node f h = tt
-val-hz Pc.E1 hz hz′ rec node f h = tt
-val-hz Pc.E2 hz hz′ rec node f h = tt
-val-hz Pc.E3 hz hz′ rec node f h = tt
-val-hz Pc.B1 hz hz′ rec node f h = tt
-val-hz Pc.Steal hz hz′ rec node f h = tt
-val-hz Pc.H1 hz hz′ rec node f h = tt
-val-hz Pc.H2 hz hz′ rec node f h = tt
-val-hz Pc.Examine hz hz′ rec node f h = tt
-val-hz Pc.Reclaim hz hz′ rec node f h = tt
-val-hz Pc.Empty hz hz′ rec node f h = tt
-val-hz Pc.Push1 hz hz′ rec node f h = tt
-val-hz Pc.Push2 hz hz′ rec node f h = tt
-val-hz Pc.C1 hz hz′ rec node f h = tt
-val-hz Pc.C3 hz hz′ rec node f h = tt
-val-hz Pc.Wait hz hz′ rec node f h = tt
-val-hz Pc.S1 hz hz′ rec node f h = tt
-val-hz Pc.S2 hz hz′ rec node f h = tt
-val-hz Pc.S3 hz hz′ rec node f h = tt
-val-hz Pc.Unknown hz hz′ rec node f h = tt
+-- what a value at V2 needs of the hazards, and who is there: an owner
+abbrev Checks : Scan → Type 0
+Checks Scan.before = ⊥
+Checks Scan.checks = Unit {0}
+Checks Scan.during = ⊥
+Checks Scan.after = ⊥
+
+val-hz : (s : Scan) (hz hz′ : List ℕ) (rec node : ℕ) → (Checks s → getD hz′ rec 0 ≡ getD hz rec 0) → ValOf s hz rec node → ValOf s hz′ rec node
+val-hz Scan.before hz hz′ rec node f h = tt
+val-hz Scan.checks hz hz′ rec node f h = f tt ∙ h
+val-hz Scan.during hz hz′ rec node f h = tt
+val-hz Scan.after hz hz′ rec node f h = tt
+
+checks-own : (p : Pc) → Checks (scan p) → hold p ≡ Hold.owns
+checks-own = every (λ (p : Pc). Checks (scan p) → hold p ≡ Hold.owns) (search (two, nobody) depth 12 fits 4000)
+  where
+    nobody : {h : Hold} → ⊥ → h ≡ Hold.owns
+    nobody q = absurd q
+
+-- what the layer speaks of, beside rows, guarded sets and claims
+record Parts : Type 0 where
+  pub mark : ℕ
+  pub state : List ℕ
+  pub sources : List ℕ
+  pub hazard : List ℕ
+  pub next : List ℕ
+  pub head : ℕ
+  pub holder : List ℕ
+
+abbrev parts : View → Parts
+parts v = record { mark = v .heads .mark; state = v .nodes .state; sources = v .sources; hazard = v .records .hazard; next = v .records .next; head = v .heads .recordHead; holder = v .records .holder }
 
 module _ (g : Settings) (v : View) (ls : List (List ℕ)) (H : HeapIn g v ls) (R : RecordsIn v) (Z : ZoneIn v) (cl : List ℕ) (I : ClaimsIn v cl ls) (lv : Long v) (t : ℕ) (ht : t < length (v .rows)) (gw : length (getD (v .guards) t []) ≡ words) where
   abbrev r : Row
@@ -320,15 +177,11 @@ module _ (g : Settings) (v : View) (ls : List (List ℕ)) (H : HeapIn g v ls) (R
       (Claim.relist mark st src hz next head ho gs rows cl ls I t ht x (N .lists) (N .others) (not-D1 p e ne) (spares p i v′ N z) val s)
 
   -- the place stays, outside the scan and V2
-  val-at : (p : Pc) (x : Row) → x .place ≡ code p → ValOf p hz (x .rec) (x .node) → Val hz x
-  val-at p x e h = subst (λ (q : Pc). ValOf q hz (x .rec) (x .node)) (sym (is p x e)) h
+  val-at : (p : Pc) (x : Row) → x .place ≡ code p → ValOf (scan p) hz (x .rec) (x .node) → Val hz x
+  val-at p x e h = subst (λ (q : Pc). ValOf (scan q) hz (x .rec) (x .node)) (sym (is p x e)) h
 
   safe-at : (p : Pc) (x : Row) (gs′ : List (List ℕ)) (cl′ : List ℕ) (ls′ : List (List ℕ)) → x .place ≡ code p → SafeOf (scan p) next head gs′ cl′ ls′ t (x .rec) → Safe next head gs′ cl′ ls′ t x
   safe-at p x gs′ cl′ ls′ e h = subst (λ (q : Pc). SafeOf (scan q) next head gs′ cl′ ls′ t (x .rec)) (sym (is p x e)) h
-
-  calmly : (p : Pc) → r .place ≡ code p → code p ≢ code Pc.D1 → ValOf p hz 0 0 ≡ Unit {0} → scan p ≡ Scan.before → (i : Seen) {v′ : View} (N : Next g v ls t p i v′) → ((n : ℕ) → gains p r i n ≡ 0) → (x : Row) → x .place ≡ code p → ValOf p hz (x .rec) (x .node)
-      → ClaimsAt mark st src hz next head ho (set gs t (guarded (getD gs t []) guards.Keep)) (set rows t x) cl (N .lists)
-  calmly p e ne vu sb i N z x ex val = calm p e ne i N z x (val-at p x ex val) (safe-at p x gs cl (N .lists) ex (subst (λ (q : Scan). SafeOf q next head gs cl (N .lists) t (x .rec)) (sym sb) tt))
 
   -- ---- what stands in a slot of the thread waits, and a head stands in its slot
   waits : (u j n : ℕ) → u < length rows → j < 11 → 1 ≤ occ n (getD ls (slot u j) []) → getD st n 0 ≡ 2
@@ -346,6 +199,9 @@ module _ (g : Settings) (v : View) (ls : List (List ℕ)) (H : HeapIn g v ls) (R
   -- ---- stores to the thread's hazard
   know : (p : Pc) (u : ℕ) → u < length rows → pcOf (getD rows u idle .place) ≡ p → KnowOf (hold p) (v .heads .headAvailable) (v .records .availableNext) ho u (getD rows u idle .rec) (getD rows u idle .next)
   know p u hu e = subst (λ (q : Pc). KnowOf (hold q) (v .heads .headAvailable) (v .records .availableNext) ho u (getD rows u idle .rec) (getD rows u idle .next)) e (R .know u hu)
+
+  owned : (u : ℕ) → u < length rows → hold (pcOf (getD rows u idle .place)) ≡ Hold.owns → getD ho (getD rows u idle .rec) 0 ≡ u + 2
+  owned u hu q = subst (λ (h : Hold). KnowOf h (v .heads .headAvailable) (v .records .availableNext) ho u (getD rows u idle .rec) (getD rows u idle .next)) q (R .know u hu) .0
 
   ended : (a c n : ℕ) → a < length cl → Claim (set cl a 0) c n → (c ≢ a) × Claim cl c n
   ended a c n ha k = go (ℕ-discrete c a)
@@ -367,7 +223,7 @@ module _ (g : Settings) (v : View) (ls : List (List ℕ)) (H : HeapIn g v ls) (R
         spared = λ u hu. spare n (h .spared) (q .1) u (rw length-set at hu) (ℕ-discrete u t);
         keeper = keeper-set ho ho rows t x c ht (λ w. inl w) (λ _ w. q .0 (sym w)) (h .keeper);
       })
-      (λ u hu ne q. val-hz (pcOf (getD rows u idle .place)) hz (set hz (r .rec) y) (getD rows u idle .rec) (getD rows u idle .node) (λ e. getD-set-other hz (r .rec) (getD rows u idle .rec) y 0 (λ w. others u hu ne (ap (λ (a : ℕ). getD ho a 0) (sym w) ∙ know Pc.V2 u hu e .0))) q)
+      (λ u hu ne q. val-hz (scan (pcOf (getD rows u idle .place))) hz (set hz (r .rec) y) (getD rows u idle .rec) (getD rows u idle .node) (λ e. getD-set-other hz (r .rec) (getD rows u idle .rec) y 0 (λ w. others u hu ne (ap (λ (a : ℕ). getD ho a 0) (sym w) ∙ owned u hu (checks-own (pcOf (getD rows u idle .place)) e)))) q)
       (λ u hu ne q. safe-less (scan (pcOf (getD rows u idle .place))) next head gs gs cl (set cl (r .rec) 0) ls (N .lists) u (getD rows u idle .rec) (λ c n k m. ended (r .rec) c n in′ k .1) (λ n m. stolen-other (length rows) t ls (N .lists) (N .others) u n hu ne m) (λ n m. m) q)
       val s (λ m c n k. I .over m c n (ended (r .rec) c n in′ k .1)) (length-set cl (r .rec) 0 ∙ I .long ∙ sym (length-set hz (r .rec) y)))
     where
@@ -385,25 +241,25 @@ module _ (g : Settings) (v : View) (ls : List (List ℕ)) (H : HeapIn g v ls) (R
   mine : getD ho (r .rec) 0 ≡ t + 2 → (u : ℕ) → u < length rows → u ≢ t → getD ho (r .rec) 0 ≢ u + 2
   mine e u hu ne w = ne (omega arith)
 
-  kV1 : (i : Seen) → Look g v t Pc.V1 r i → K Pc.V1 i (does g Pc.V1 r i)
-  kV1 i l N = let o = owner Pc.V1 (l .place) refl in stored i Pc.V1 N (λ n. refl) (o .0) (mine (o .1)) (r .node) (goTo Pc.V2 r) (getD-set-same hz (r .rec) (r .node) 0 (let a = lv .hazard in let q = o .0 .1 in omega arith)) tt
+  kV1 : (i : Seen) → Look g v t Pc.V1 r i → At (λ (p : Pc) (e : Effect). K p i e) Pc.V1 (does g Pc.V1 r i)
+  kV1 i l = thus (λ N. let o = owner Pc.V1 (l .place) refl in stored i Pc.V1 N (λ n. refl) (o .0) (mine (o .1)) (r .node) (goTo Pc.V2 r) (getD-set-same hz (r .rec) (r .node) 0 (let a = lv .hazard in let q = o .0 .1 in omega arith)) tt)
 
-  kV3 : (i : Seen) → Look g v t Pc.V3 r i → K Pc.V3 i (does g Pc.V3 r i)
+  kV3 : (i : Seen) → Look g v t Pc.V3 r i → At (λ (p : Pc) (e : Effect). K p i e) Pc.V3 (does g Pc.V3 r i)
   kV3 i l =
-      let o = owner Pc.V3 (l .place) refl in
-      pick-all (K Pc.V3 i) (eqb (r .operation) 3) _ _ (λ N. stored i Pc.V3 N (λ n. refl) (o .0) (mine (o .1)) 0 _ tt tt) (λ N. stored i Pc.V3 N (λ n. refl) (o .0) (mine (o .1)) 0 idle tt tt)
+      thus (let o = owner Pc.V3 (l .place) refl in
+      pick-all (K Pc.V3 i) (eqb (r .operation) 3) _ _ (λ N. stored i Pc.V3 N (λ n. refl) (o .0) (mine (o .1)) 0 _ tt tt) (λ N. stored i Pc.V3 N (λ n. refl) (o .0) (mine (o .1)) 0 idle tt tt))
 
-  kReset : (i : Seen) → Look g v t Pc.Reset r i → K Pc.Reset i (does g Pc.Reset r i)
-  kReset i l N = let o = owner Pc.Reset (l .place) refl in stored i Pc.Reset N (λ n. refl) (o .0) (mine (o .1)) 0 idle tt tt
+  kReset : (i : Seen) → Look g v t Pc.Reset r i → At (λ (p : Pc) (e : Effect). K p i e) Pc.Reset (does g Pc.Reset r i)
+  kReset i l = thus (λ N. let o = owner Pc.Reset (l .place) refl in stored i Pc.Reset N (λ n. refl) (o .0) (mine (o .1)) 0 idle tt tt)
 
-  kRaw : (i : Seen) → Look g v t Pc.Raw r i → K Pc.Raw i (does g Pc.Raw r i)
-  kRaw i l N = let o = owner Pc.Raw (l .place) refl in stored i Pc.Raw N (λ n. refl) (o .0) (mine (o .1)) (r .node) idle tt tt
+  kRaw : (i : Seen) → Look g v t Pc.Raw r i → At (λ (p : Pc) (e : Effect). K p i e) Pc.Raw (does g Pc.Raw r i)
+  kRaw i l = thus (λ N. let o = owner Pc.Raw (l .place) refl in stored i Pc.Raw N (λ n. refl) (o .0) (mine (o .1)) (r .node) idle tt tt)
 
-  kD1 : (i : Seen) → Look g v t Pc.D1 r i → K Pc.D1 i (does g Pc.D1 r i)
-  kD1 i l N =
+  kD1 : (i : Seen) → Look g v t Pc.D1 r i → At (λ (p : Pc) (e : Effect). K p i e) Pc.D1 (does g Pc.D1 r i)
+  kD1 i l = thus (λ N.
       let k = know Pc.D1 t ht (is Pc.D1 r (l .place)) in
       let w = RecordMoves.held-one (v .heads .headAvailable) head (v .records .availableNext) next ho rows R t ht (r .rec) (ap (λ (q : Pc). hasOf (hold q) (r .rec) (r .rec)) (is Pc.D1 r (l .place)) ∙ eq01-same (r .rec)) in
-      stored i Pc.D1 N (λ n. refl) (k .1) (λ u hu ne. omega arith) 0 (goTo Pc.D2 r) tt tt
+      stored i Pc.D1 N (λ n. refl) (k .1) (λ u hu ne. omega arith) 0 (goTo Pc.D2 r) tt tt)
 
   -- ---- a record that somebody owns is on the list
   on-list : (c : ℕ) → 2 ≤ getD ho c 0 → (L : List ℕ) → Seg next head L 0 → 1 ≤ occ c L
@@ -436,8 +292,8 @@ module _ (g : Settings) (v : View) (ls : List (List ℕ)) (H : HeapIn g v ls) (R
               off-has Hold.owns c rec = omega arith
 
   -- ---- V2: the source still holds the node
-  kV2 : (i : Seen) → Look g v t Pc.V2 r i → K Pc.V2 i (does g Pc.V2 r i)
-  kV2 i l = pick-case (K Pc.V2 i) (eqb (i .v) (r .node)) _ _ (λ e. valid (eqb-true (i .v) (r .node) e)) (λ _ N. calm Pc.V2 (l .place) (omega arith) i N (λ n. refl) _ tt tt)
+  kV2 : (i : Seen) → Look g v t Pc.V2 r i → At (λ (p : Pc) (e : Effect). K p i e) Pc.V2 (does g Pc.V2 r i)
+  kV2 i l = thus (pick-case (K Pc.V2 i) (eqb (i .v) (r .node)) _ _ (λ e. valid (eqb-true (i .v) (r .node) e)) (λ _ N. calm Pc.V2 (l .place) (omega arith) i N (λ n. refl) _ tt tt))
     where
       o : IsId records (r .rec) × (getD ho (r .rec) 0 ≡ t + 2)
       o = owner Pc.V2 (l .place) refl
@@ -455,7 +311,7 @@ module _ (g : Settings) (v : View) (ls : List (List ℕ)) (H : HeapIn g v ls) (R
       live nz = I .sources (r .source) n (sym (sees l tt refl .0)) nz
 
       hzn : i .v ≡ r .node → getD hz a 0 ≡ n
-      hzn e = subst (λ (q : Pc). ValOf q hz (r .rec) (r .node)) (is Pc.V2 r (l .place)) (I .vals t ht) ∙ sym e
+      hzn e = subst (λ (q : Pc). ValOf (scan q) hz (r .rec) (r .node)) (is Pc.V2 r (l .place)) (I .vals t ht) ∙ sym e
 
       old : (c m : ℕ) → Claim (set cl a n) c m → ((c ≡ a) × (m ≡ n)) ⊎ Claim cl c m
       old c m k = go (ℕ-discrete c a)
@@ -529,10 +385,10 @@ module _ (g : Settings) (v : View) (ls : List (List ℕ)) (H : HeapIn g v ls) (R
       let k = subst (λ (h : Hold). KnowOf h (v .heads .headAvailable) (v .records .availableNext) ho t (r .rec) (r .next)) q (know p t ht (is p r e)) in
       reheld p e nd i N z (r .rec) (i .thread + 2) (let a = lv .holder in let b = k .1 .1 in omega arith) (λ _. omega arith) idle tt tt
 
-  kN1 : (i : Seen) → Look g v t Pc.N1 r i → K Pc.N1 i (does g Pc.N1 r i)
-  kN1 i l = pick-case (K Pc.N1 i) (eqb (i .untaken) 0) _ _ (λ _ N. calm Pc.N1 (l .place) (omega arith) i N (λ n. refl) idle tt tt)
+  kN1 : (i : Seen) → Look g v t Pc.N1 r i → At (λ (p : Pc) (e : Effect). K p i e) Pc.N1 (does g Pc.N1 r i)
+  kN1 i l = thus (pick-case (K Pc.N1 i) (eqb (i .untaken) 0) _ _ (λ _ N. calm Pc.N1 (l .place) (omega arith) i N (λ n. refl) idle tt tt)
       (λ e N. let id : IsId records (i .untaken) = subst (λ (b : Bool). InTable (pick b cell.Nothing (cell.Holder (i .untaken)))) e (l .beyond) in
-      reheld Pc.N1 (l .place) (omega arith) i N (λ n. refl) (i .untaken) 1 (let a = lv .holder in let b = id .1 in omega arith) (λ h. absurd (untaken e id h (l .lowest (eqb-false (i .untaken) 0 e)))) _ tt tt)
+      reheld Pc.N1 (l .place) (omega arith) i N (λ n. refl) (i .untaken) 1 (let a = lv .holder in let b = id .1 in omega arith) (λ h. absurd (untaken e id h (l .lowest (eqb-false (i .untaken) 0 e)))) _ tt tt))
     where
       untaken : eqb (i .untaken) 0 ≡ false → IsId records (i .untaken) → 2 ≤ getD ho (i .untaken) 0 → (getD ho (i .untaken) 0 ≡ 0) ⊎ (threads + 1 < getD ho (i .untaken) 0) → ⊥
       untaken e id h (inl z) = omega arith
@@ -551,6 +407,7 @@ module _ (g : Settings) (v : View) (ls : List (List ℕ)) (H : HeapIn g v ls) (R
     where
       moved : (p : Scan) (u rec : ℕ) → SafeOf p next head gs cl (N .lists) u rec → SafeOf p next′ head′ gs cl (N .lists) u rec
       moved Scan.before u rec q = tt
+      moved Scan.checks u rec q = tt
       moved Scan.during u rec q = (q .0, frame rec (q .0) (q .3) (q .1), q .2, λ L w n. let a = q .3 (R .all) (R .chain) n in let b = more L w n in omega arith, q .4)
       moved Scan.after u rec q = q
 
@@ -558,8 +415,8 @@ module _ (g : Settings) (v : View) (ls : List (List ℕ)) (H : HeapIn g v ls) (R
       spare c n k old u hu (yes q) = rw q (spares Pc.N2 i v′ N (λ _. refl) c n k)
       spare c n k old u hu (no q) = rw (N .others u hu q toReclaim (omega arith)) (old u hu)
 
-  kN2 : (i : Seen) → Look g v t Pc.N2 r i → K Pc.N2 i (does g Pc.N2 r i)
-  kN2 i l = pick-case (K Pc.N2 i) (eqb (i .v) (r .next)) _ _ (λ e. pick-all (K Pc.N2 i) (i .flag) _ _ lost (won (eqb-true (i .v) (r .next) e))) (λ _. lost)
+  kN2 : (i : Seen) → Look g v t Pc.N2 r i → At (λ (p : Pc) (e : Effect). K p i e) Pc.N2 (does g Pc.N2 r i)
+  kN2 i l = thus (pick-case (K Pc.N2 i) (eqb (i .v) (r .next)) _ _ (λ e. pick-all (K Pc.N2 i) (i .flag) _ _ lost (won (eqb-true (i .v) (r .next) e))) (λ _. lost))
     where
       k : KnowOf Hold.pends (v .heads .headAvailable) (v .records .availableNext) ho t (r .rec) (r .next)
       k = know Pc.N2 t ht (is Pc.N2 r (l .place))
@@ -610,13 +467,13 @@ module _ (g : Settings) (v : View) (ls : List (List ℕ)) (H : HeapIn g v ls) (R
       at j m w z (yes q) (yes d) = absurd (z (sym w ∙ rw q (List·getD-eq-default (set src b n) 0 (rw length-set d))))
       at j m w z (yes q) (no d) = let y : n ≡ m = sym (getD-set-same src b n 0 (omega arith)) ∙ rw q at w in rw (← y) (hn (λ x. z (sym y ∙ x)))
 
-  kSwap : (i : Seen) → Look g v t Pc.Swap r i → K Pc.Swap i (does g Pc.Swap r i)
+  kSwap : (i : Seen) → Look g v t Pc.Swap r i → At (λ (p : Pc) (e : Effect). K p i e) Pc.Swap (does g Pc.Swap r i)
   kSwap i l =
-      pick-case (K Pc.Swap i) (eqb (i .w) 2) _ _ (λ _ N. calm Pc.Swap (l .place) (omega arith) i N (λ n. refl) idle tt tt)
+      thus (pick-case (K Pc.Swap i) (eqb (i .w) 2) _ _ (λ _ N. calm Pc.Swap (l .place) (omega arith) i N (λ n. refl) idle tt tt)
       (λ e2. pick-case (K Pc.Swap i) (eqb (r .node) 0) _ _ (λ _ N. resourced i N (l .place) (r .source) 0 st (λ z. absurd (z refl)) (λ m h. h) (λ m h. h) (I .states))
       (λ e0. pick-case (K Pc.Swap i) (eqb (i .w) 0) _ _
       (λ ew N. resourced i N (l .place) (r .source) (r .node) (set st (r .node) 1) (λ _. getD-set-same st (r .node) 1 0 (nb e0)) (λ m h. one m h (ℕ-discrete m (r .node)) e0) (λ m h. some m h (ℕ-discrete m (r .node)) e0) (λ m. most m (ℕ-discrete m (r .node)) e0))
-      (λ ew N. resourced i N (l .place) (r .source) (r .node) st (λ _. let a = eqb-false (i .w) 2 e2 in let b = eqb-false (i .w) 0 ew in let c = I .states (r .node) in let d = state-is e0 in omega arith) (λ m h. h) (λ m h. h) (I .states))))
+      (λ ew N. resourced i N (l .place) (r .source) (r .node) st (λ _. let a = eqb-false (i .w) 2 e2 in let b = eqb-false (i .w) 0 ew in let c = I .states (r .node) in let d = state-is e0 in omega arith) (λ m h. h) (λ m h. h) (I .states)))))
     where
       nb : eqb (r .node) 0 ≡ false → r .node < length st
       nb e = let a = lv .state in let b = l .small .node in omega arith
@@ -656,24 +513,24 @@ module _ (g : Settings) (v : View) (ls : List (List ℕ)) (H : HeapIn g v ls) (R
   was-stolen : (p : Pc) (i : Seen) {v′ : View} (N : Next g v ls t p i v′) → grabs p ≡ 0 → (n : ℕ) → Stolen (N .lists) t n → Stolen ls t n
   was-stolen p i N z n m = record { k = m .k; k8 = m .k8; mem = let a = N .stolen (m .k) (m .k8) n in let b = m .mem in omega arith }
 
-  kH1 : (i : Seen) → Look g v t Pc.H1 r i → K Pc.H1 i (does g Pc.H1 r i)
+  kH1 : (i : Seen) → Look g v t Pc.H1 r i → At (λ (p : Pc) (e : Effect). K p i e) Pc.H1 (does g Pc.H1 r i)
   kH1 i l =
-      pick-case (K Pc.H1 i) (eqb (i .v) 0) _ _
-      (λ e. all-from (λ x. K Pc.H1 i (clearsGuards x)) g 0 r (λ N. reguarded Pc.H1 (l .place) (omega arith) i N (λ n. refl) _ _ tt tt) (λ j N. reguarded Pc.H1 (l .place) (omega arith) i N (λ n. refl) _ _ tt (λ c n k m. absurd (empty (sym (sees l tt refl .0) ∙ eqb-true (i .v) 0 e) c n k))))
-      (λ e N. reguarded Pc.H1 (l .place) (omega arith) i N (λ n. refl) _ _ tt
-      (R .all, subst (λ (a : ℕ). Seg next a (R .all) 0) (sym (sees l tt refl .0)) (R .chain), eqb-false (i .v) 0 e, (λ L q n. let f = seg-unique next head (R .all) L (R .chain) q in let a = ap (occ n) f in omega arith), λ c n k m. inl (I .claims c n k .listed (R .all) (R .chain))))
+      thus (pick-case (K Pc.H1 i) (eqb (i .v) 0) _ _
+      (λ e. all-from (λ x. K Pc.H1 i (clearsGuards x)) g 0 r (λ N. reguarded Pc.H1 (l .place) (omega arith) i N (λ n. refl) _ _ tt tt) (λ j N. reguarded Pc.H1 (l .place) (omega arith) i N (λ n. refl) _ (goTo Pc.Examine (inShard j r)) tt (λ c n k m. absurd (empty (sym (sees l tt refl .0) ∙ eqb-true (i .v) 0 e) c n k))))
+      (λ e N. reguarded Pc.H1 (l .place) (omega arith) i N (λ n. refl) _ (goTo Pc.H2 (Rows.withRec (i .v) r)) tt
+      (R .all, subst (λ (a : ℕ). Seg next a (R .all) 0) (sym (sees l tt refl .0)) (R .chain), eqb-false (i .v) 0 e, (λ L q n. let f = seg-unique next head (R .all) L (R .chain) q in let a = ap (occ n) f in omega arith), λ c n k m. inl (I .claims c n k .listed (R .all) (R .chain)))))
     where
       empty : head ≡ 0 → (c n : ℕ) → Claim cl c n → ⊥
       empty z c n k = let q = I .claims c n k .listed [] z in omega arith
 
-  kH2 : (i : Seen) → Look g v t Pc.H2 r i → K Pc.H2 i (does g Pc.H2 r i)
+  kH2 : (i : Seen) → Look g v t Pc.H2 r i → At (λ (p : Pc) (e : Effect). K p i e) Pc.H2 (does g Pc.H2 r i)
   kH2 i l =
-      pick-case (K Pc.H2 i) (eqb (i .w) 0) _ _
+      thus (pick-case (K Pc.H2 i) (eqb (i .w) 0) _ _
       (λ e. all-from (λ x. K Pc.H2 i (guarding (i .v) x)) g 0 r (λ N. reguarded Pc.H2 (l .place) (omega arith) i N (λ n. refl) _ _ tt tt)
-      (λ j N. reguarded Pc.H2 (l .place) (omega arith) i N (λ n. refl) _ _ tt (λ c n k m. last c n (nx ∙ eqb-true (i .w) 0 e) (seen c n k (was-stolen Pc.H2 i N refl n m)))))
+      (λ j N. reguarded Pc.H2 (l .place) (omega arith) i N (λ n. refl) _ (goTo Pc.Examine (inShard j r)) tt (λ c n k m. last c n (nx ∙ eqb-true (i .w) 0 e) (seen c n k (was-stolen Pc.H2 i N refl n m)))))
       (λ e N. reguarded Pc.H2 (l .place) (omega arith) i N (λ n. refl) _ (Rows.withRec (i .w) r) (val-at Pc.H2 (Rows.withRec (i .w) r) (l .place) tt)
       (safe-at Pc.H2 (Rows.withRec (i .w) r) (set gs t w) cl (N .lists) (l .place)
-      (q .0, subst (λ (a : ℕ). Seg next a (q .0) 0) nx (q .4), eqb-false (i .w) 0 e, (λ L y n. let a = d .3 L y n in let b = ap (occ n) (q .1) in omega arith), λ c n k m. seen c n k (was-stolen Pc.H2 i N refl n m))))
+      (q .0, subst (λ (a : ℕ). Seg next a (q .0) 0) nx (q .4), eqb-false (i .w) 0 e, (λ L y n. let a = d .3 L y n in let b = ap (occ n) (q .1) in omega arith), λ c n k m. seen c n k (was-stolen Pc.H2 i N refl n m)))))
     where
       d : SafeOf Scan.during next head gs cl ls t (r .rec)
       d = subst (λ (p : Pc). SafeOf (scan p) next head gs cl ls t (r .rec)) (is Pc.H2 r (l .place)) (I .safe t ht)
@@ -725,11 +582,11 @@ module _ (g : Settings) (v : View) (ls : List (List ℕ)) (H : HeapIn g v ls) (R
   after-at : (p : Pc) → r .place ≡ code p → scan p ≡ Scan.after → (c n : ℕ) → Claim cl c n → Stolen ls t n → Guarded gs t n
   after-at p e q = subst (λ (h : Scan). SafeOf h next head gs cl ls t (r .rec)) q (subst (λ (h : Pc). SafeOf (scan h) next head gs cl ls t (r .rec)) (is p r e) (I .safe t ht))
 
-  kExamine : (i : Seen) → Look g v t Pc.Examine r i → K Pc.Examine i (does g Pc.Examine r i)
+  kExamine : (i : Seen) → Look g v t Pc.Examine r i → At (λ (p : Pc) (e : Effect). K p i e) Pc.Examine (does g Pc.Examine r i)
   kExamine i l =
-      pick-all (K Pc.Examine i) (i .guarded) _ _
+      thus (pick-all (K Pc.Examine i) (i .guarded) _ _
       (all-examined (λ x. K Pc.Examine i (stores (r .unreclaimed) (becomes x))) g (i .v) _ (λ N. leaf N _ tt tt) (λ j N. leaf N _ tt (safe N)) (λ N. leaf N _ tt (safe N)) (λ N. leaf N (Rows.keeping (first r) (pick (eqb (r .unreclaimed) 0) (first r) (r .tail)) (stealing (i .v) r)) (val-at Pc.Examine (Rows.keeping (first r) (pick (eqb (r .unreclaimed) 0) (first r) (r .tail)) (stealing (i .v) r)) (l .place) tt) (safe-at Pc.Examine (Rows.keeping (first r) (pick (eqb (r .unreclaimed) 0) (first r) (r .tail)) (stealing (i .v) r)) gs cl (N .lists) (l .place) (safe N))))
-      (all-examined (λ x. K Pc.Examine i (stores (r .reclaimable) (becomes x))) g (i .v) _ (λ N. leaf N _ tt tt) (λ j N. leaf N _ tt (safe N)) (λ N. leaf N _ tt (safe N)) (λ N. leaf N (Rows.reclaiming (first r) (stealing (i .v) r)) (val-at Pc.Examine (Rows.reclaiming (first r) (stealing (i .v) r)) (l .place) tt) (safe-at Pc.Examine (Rows.reclaiming (first r) (stealing (i .v) r)) gs cl (N .lists) (l .place) (safe N))))
+      (all-examined (λ x. K Pc.Examine i (stores (r .reclaimable) (becomes x))) g (i .v) _ (λ N. leaf N _ tt tt) (λ j N. leaf N _ tt (safe N)) (λ N. leaf N _ tt (safe N)) (λ N. leaf N (Rows.reclaiming (first r) (stealing (i .v) r)) (val-at Pc.Examine (Rows.reclaiming (first r) (stealing (i .v) r)) (l .place) tt) (safe-at Pc.Examine (Rows.reclaiming (first r) (stealing (i .v) r)) gs cl (N .lists) (l .place) (safe N)))))
     where
       -- the examined node stands in its stolen list
       here : Stolen ls t (first r)
@@ -782,10 +639,10 @@ module _ (g : Settings) (v : View) (ls : List (List ℕ)) (H : HeapIn g v ls) (R
           go (no d) = rw (w, getD-set-same st (r .reclaimable) 0 0 (omega arith)) (omega arith)
       most m (no w) = rw (getD-set-other st (r .reclaimable) m 0 0 w) (I .states m)
 
-  kReclaim : (i : Seen) → Look g v t Pc.Reclaim r i → K Pc.Reclaim i (does g Pc.Reclaim r i)
+  kReclaim : (i : Seen) → Look g v t Pc.Reclaim r i → At (λ (p : Pc) (e : Effect). K p i e) Pc.Reclaim (does g Pc.Reclaim r i)
   kReclaim i l =
-      all-reclaimed (λ x. K Pc.Reclaim i (reclaims (r .reclaimable) x)) g (i .v) _ (λ N. freed Pc.Reclaim (l .place) (omega arith) i N (λ n. refl) nz _ tt tt) (λ j N. freed Pc.Reclaim (l .place) (omega arith) i N (λ n. refl) nz _ tt (safe N))
-      (λ N. freed Pc.Reclaim (l .place) (omega arith) i N (λ n. refl) nz (Rows.freeing (Rows.reclaiming (i .v) r)) (val-at Pc.Reclaim (Rows.freeing (Rows.reclaiming (i .v) r)) (l .place) tt) (safe-at Pc.Reclaim (Rows.freeing (Rows.reclaiming (i .v) r)) gs cl (N .lists) (l .place) (safe N)))
+      thus (all-reclaimed (λ x. K Pc.Reclaim i (reclaims (r .reclaimable) x)) g (i .v) _ (λ N. freed Pc.Reclaim (l .place) (omega arith) i N (λ n. refl) nz _ tt tt) (λ j N. freed Pc.Reclaim (l .place) (omega arith) i N (λ n. refl) nz _ tt (safe N))
+      (λ N. freed Pc.Reclaim (l .place) (omega arith) i N (λ n. refl) nz (Rows.freeing (Rows.reclaiming (i .v) r)) (val-at Pc.Reclaim (Rows.freeing (Rows.reclaiming (i .v) r)) (l .place) tt) (safe-at Pc.Reclaim (Rows.freeing (Rows.reclaiming (i .v) r)) gs cl (N .lists) (l .place) (safe N))))
     where
       nz : r .reclaimable ≢ 0
       nz = let a = l .reach in omega arith
@@ -797,25 +654,25 @@ module _ (g : Settings) (v : View) (ls : List (List ℕ)) (H : HeapIn g v ls) (R
   shut-none : (p : Pc) → r .place ≡ code p → (Open (side p) → ⊥) → (c n : ℕ) → Claim cl c n → ⊥
   shut-none p e f c n k = I .over (all-shut-rows g v Z t ht p e f .0) c n k
 
-  kS1 : (i : Seen) → Look g v t Pc.S1 r i → K Pc.S1 i (does g Pc.S1 r i)
-  kS1 i l = pick-all (K Pc.S1 i) (eqb (i .v) 0) _ _ (all-shut (λ x. K Pc.S1 i (stores 0 (becomes x))) g r (λ N. on N _ tt tt) (λ j N. on N _ tt tt)) (λ N. on N _ tt tt)
+  kS1 : (i : Seen) → Look g v t Pc.S1 r i → At (λ (p : Pc) (e : Effect). K p i e) Pc.S1 (does g Pc.S1 r i)
+  kS1 i l = thus (pick-all (K Pc.S1 i) (eqb (i .v) 0) _ _ (all-shut (λ x. K Pc.S1 i (stores 0 (becomes x))) g r (λ N. on N _ tt tt) (λ j N. on N _ tt tt)) (λ N. on N _ tt tt))
     where
       on : {v′ : View} (N : Next g v ls t Pc.S1 i v′) (x : Row) → Val hz x → Safe next head gs cl (N .lists) t x → ClaimsAt mark st src hz next head ho (set gs t (guarded (getD gs t []) guards.Keep)) (set rows t x) cl (N .lists)
       on N x val s =
           subst (λ (y : List (List ℕ)). ClaimsAt mark st src hz next head ho y (set rows t x) cl (N .lists)) (sym gs-keep)
           (Claim.relist mark st src hz next head ho gs rows cl ls I t ht x (N .lists) (N .others) (not-D1 Pc.S1 (l .place) (omega arith)) (λ c n k. absurd (shut-none Pc.S1 (l .place) (λ q. q) c n k)) val s)
 
-  kS2 : (i : Seen) → Look g v t Pc.S2 r i → K Pc.S2 i (does g Pc.S2 r i)
+  kS2 : (i : Seen) → Look g v t Pc.S2 r i → At (λ (p : Pc) (e : Effect). K p i e) Pc.S2 (does g Pc.S2 r i)
   kS2 i l =
-      pick-all (λ (x : Row). K Pc.S2 i (reclaims (r .reclaimable) x)) (eqb (i .v) 0) _ _
+      thus (pick-all (λ (x : Row). K Pc.S2 i (reclaims (r .reclaimable) x)) (eqb (i .v) 0) _ _
       (all-shut (λ x. K Pc.S2 i (reclaims (r .reclaimable) x)) g _ (λ N. freed Pc.S2 (l .place) (omega arith) i N (λ n. refl) nz _ tt tt) (λ j N. freed Pc.S2 (l .place) (omega arith) i N (λ n. refl) nz _ tt tt))
-      (λ N. freed Pc.S2 (l .place) (omega arith) i N (λ n. refl) nz (Rows.freed (Rows.reclaiming (i .v) r)) (val-at Pc.S2 (Rows.freed (Rows.reclaiming (i .v) r)) (l .place) tt) (safe-at Pc.S2 (Rows.freed (Rows.reclaiming (i .v) r)) gs cl (N .lists) (l .place) tt))
+      (λ N. freed Pc.S2 (l .place) (omega arith) i N (λ n. refl) nz (Rows.freed (Rows.reclaiming (i .v) r)) (val-at Pc.S2 (Rows.freed (Rows.reclaiming (i .v) r)) (l .place) tt) (safe-at Pc.S2 (Rows.freed (Rows.reclaiming (i .v) r)) gs cl (N .lists) (l .place) tt)))
     where
       nz : r .reclaimable ≢ 0
       nz = let a = l .reach in omega arith
 
-  kS3 : (i : Seen) → Look g v t Pc.S3 r i → K Pc.S3 i (does g Pc.S3 r i)
-  kS3 i l N = record {
+  kS3 : (i : Seen) → Look g v t Pc.S3 r i → At (λ (p : Pc) (e : Effect). K p i e) Pc.S3 (does g Pc.S3 r i)
+  kS3 i l = thus λ N. record {
     sources = I .sources;
     states = I .states;
     claims = λ c n k. absurd (shut-none Pc.S3 (l .place) (λ q. q) c n k);
@@ -829,55 +686,30 @@ module _ (g : Settings) (v : View) (ls : List (List ℕ)) (H : HeapIn g v ls) (R
       shut = each-set idle (λ u x. ShutRow x) (λ u x. ShutRow x) rows t idle ht (λ u hu ne q. q) tt (all-shut-rows g v Z t ht Pc.S3 (l .place) (λ q. q) .1)
 
   -- ---- every place
+  kA6 : (i : Seen) → Look g v t Pc.A6 r i → At (λ (p : Pc) (e : Effect). K p i e) Pc.A6 (does g Pc.A6 r i)
+  kA6 i l = thus λ N. acquired Pc.A6 (l .place) (omega arith) refl i N (λ n. refl) (l .thread)
+
+  kN3 : (i : Seen) → Look g v t Pc.N3 r i → At (λ (p : Pc) (e : Effect). K p i e) Pc.N3 (does g Pc.N3 r i)
+  kN3 i l = thus λ N. acquired Pc.N3 (l .place) (omega arith) refl i N (λ n. refl) (l .thread)
+
+  -- a row that may stand after a step at p, outside the scan and V2
+  record Sit (p : Pc) (x : Row) : Type 0 where
+    pub val : Val hz x
+    pub safe : (ls′ : List (List ℕ)) → Safe next head gs cl ls′ t x
+
+  sits : {p : Pc} {x : Row} → Val hz x → ((ls′ : List (List ℕ)) → Safe next head gs cl ls′ t x) → Sit p x
+  sits a b = record { val = a; safe = b }
+
+  stays : {p : Pc} {x : Row} → r .place ≡ code p → scan p ≡ Scan.before → x .place ≡ r .place → Sit p x
+  stays {p} {x} e q w = let z : scan (pcOf (x .place)) ≡ Scan.before = ap (λ (n : ℕ). scan (pcOf n)) w ∙ ap scan (pc-is p e) ∙ q in record { val = rw z tt; safe = λ ls′. rw z tt }
+
+  leaf : (i : Seen) {p : Pc} {e : Effect} → r .place ≡ code p → eqb (code p) (code Pc.D1) ≡ false → ((n : ℕ) → gains p r i n ≡ 0) → parts (applies t (named (accesses p r)) e v) ≡ parts v → applies t (named (accesses p r)) e v .guards ≡ set gs t (guarded (getD gs t []) guards.Keep) → applies t (named (accesses p r)) e v .rows ≡ set rows t (e .row) → marks p r e cl ≡ cl → Sit p (e .row) → At (λ (p : Pc) (e : Effect). K p i e) p e
+  leaf i {p} {e} h d z a b c m k = thus λ N. subst (λ (q : Parts). ClaimsAt (q .mark) (q .state) (q .sources) (q .hazard) (q .next) (q .head) (q .holder) (applies t (named (accesses p r)) e v .guards) (applies t (named (accesses p r)) e v .rows) (marks p r e cl) (N .lists)) (sym a) (rw (b, c, m) (calm p h (eqb-false (code p) (code Pc.D1) d) i N z (e .row) (k .val) (k .safe (N .lists))))
+
   pub claim-place : (p : Pc) (i : Seen) → Look g v t p r i → K p i (does g p r i)
-  claim-place Pc.Idle i l = absurd (l .fine refl)
-  claim-place Pc.A1 i l = pick-all (K Pc.A1 i) (locked (i .v)) _ _ (λ N. calmly Pc.A1 (l .place) (omega arith) refl refl i N (λ n. refl) (r) (l .place) tt) (pick-all (K Pc.A1 i) (eqb (i .v) 0) _ _ (λ N. calm Pc.A1 (l .place) (omega arith) i N (λ n. refl) _ tt tt) (λ N. calm Pc.A1 (l .place) (omega arith) i N (λ n. refl) _ tt tt))
-  claim-place Pc.A2 i l = pick-all (K Pc.A2 i) (eqb (i .v) (r .rec * 2)) _ _ (pick-all (K Pc.A2 i) (i .flag) _ _ (λ N. calm Pc.A2 (l .place) (omega arith) i N (λ n. refl) _ tt tt) (λ N. calm Pc.A2 (l .place) (omega arith) i N (λ n. refl) _ tt tt)) (λ N. calm Pc.A2 (l .place) (omega arith) i N (λ n. refl) _ tt tt)
-  claim-place Pc.A3 i l = λ N. calm Pc.A3 (l .place) (omega arith) i N (λ n. refl) _ tt tt
-  claim-place Pc.A4 i l = λ N. calm Pc.A4 (l .place) (omega arith) i N (λ n. refl) _ tt tt
-  claim-place Pc.A5 i l = λ N. calm Pc.A5 (l .place) (omega arith) i N (λ n. refl) _ tt tt
-  claim-place Pc.A6 i l = λ N. acquired Pc.A6 (l .place) (omega arith) refl i N (λ n. refl) (l .thread)
-  claim-place Pc.N1 i l = kN1 i l
-  claim-place Pc.N2 i l = kN2 i l
-  claim-place Pc.N3 i l = λ N. acquired Pc.N3 (l .place) (omega arith) refl i N (λ n. refl) (l .thread)
-  claim-place Pc.D1 i l = kD1 i l
-  claim-place Pc.D2 i l = pick-all (K Pc.D2 i) (eqb (i .v) 0) _ _ (λ N. calm Pc.D2 (l .place) (omega arith) i N (λ n. refl) _ tt tt) (λ N. calmly Pc.D2 (l .place) (omega arith) refl refl i N (λ n. refl) (r) (l .place) tt)
-  claim-place Pc.P1 i l = pick-all (K Pc.P1 i) (locked (i .v)) _ _ (λ N. calmly Pc.P1 (l .place) (omega arith) refl refl i N (λ n. refl) (r) (l .place) tt) (λ N. calm Pc.P1 (l .place) (omega arith) i N (λ n. refl) _ tt tt)
-  claim-place Pc.P2 i l = λ N. calm Pc.P2 (l .place) (omega arith) i N (λ n. refl) _ tt tt
-  claim-place Pc.P3 i l = pick-all (K Pc.P3 i) (eqb (i .v) (r .next * 2)) _ _ (pick-all (K Pc.P3 i) (i .flag) _ _ (λ N. calm Pc.P3 (l .place) (omega arith) i N (λ n. refl) _ tt tt) (λ N. calm Pc.P3 (l .place) (omega arith) i N (λ n. refl) _ tt tt)) (λ N. calm Pc.P3 (l .place) (omega arith) i N (λ n. refl) _ tt tt)
-  claim-place Pc.V0 i l = λ N. calm Pc.V0 (l .place) (omega arith) i N (λ n. refl) _ tt tt
-  claim-place Pc.V1 i l = kV1 i l
-  claim-place Pc.V2 i l = kV2 i l
-  claim-place Pc.V3 i l = kV3 i l
-  claim-place Pc.Reset i l = kReset i l
-  claim-place Pc.Raw i l = kRaw i l
-  claim-place Pc.Swap i l = kSwap i l
-  claim-place Pc.T1 i l = λ N. calm Pc.T1 (l .place) (omega arith) i N (λ n. refl) _ tt tt
-  claim-place Pc.T2 i l = pick-all (K Pc.T2 i) (eqb (i .v) (r .seen)) _ _ (pick-all (K Pc.T2 i) (i .flag) _ _ (λ N. calmly Pc.T2 (l .place) (omega arith) refl refl i N (λ n. refl) (Rows.seeing (i .v) r) (l .place) tt) (λ N. calm Pc.T2 (l .place) (omega arith) i N (λ n. refl) _ tt tt)) (λ N. calmly Pc.T2 (l .place) (omega arith) refl refl i N (λ n. refl) (Rows.seeing (i .v) r) (l .place) tt)
-  claim-place Pc.T3 i l = λ N. calm Pc.T3 (l .place) (omega arith) i N (λ n. refl) _ tt tt
-  claim-place Pc.K1 i l = λ N. calm Pc.K1 (l .place) (omega arith) i N (λ n. refl) _ tt tt
-  claim-place Pc.K2 i l = pick-all (K Pc.K2 i) (over g (r .count) (i .x)) _ _ (λ N. calm Pc.K2 (l .place) (omega arith) i N (λ n. refl) _ tt tt) (all-checked (λ x. K Pc.K2 i (becomes x)) g _ (λ N. calm Pc.K2 (l .place) (omega arith) i N (λ n. refl) _ tt tt) (λ N. calm Pc.K2 (l .place) (omega arith) i N (λ n. refl) _ tt tt) (λ N. calm Pc.K2 (l .place) (omega arith) i N (λ n. refl) _ tt tt) (λ N. calm Pc.K2 (l .place) (omega arith) i N (λ n. refl) _ tt tt))
-  claim-place Pc.K3 i l = pick-all (K Pc.K3 i) (eqb (i .x) (r .count)) _ _ (pick-all (K Pc.K3 i) (i .flag) _ _ (λ N. calm Pc.K3 (l .place) (omega arith) i N (λ n. refl) _ tt tt) (λ N. calm Pc.K3 (l .place) (omega arith) i N (λ n. refl) _ tt tt)) (λ N. calm Pc.K3 (l .place) (omega arith) i N (λ n. refl) _ tt tt)
-  claim-place Pc.K4 i l = all-checked (λ x. K Pc.K4 i (stores (dueTime (i .clock)) (becomes x))) g _ (λ N. calm Pc.K4 (l .place) (omega arith) i N (λ n. refl) _ tt tt) (λ N. calm Pc.K4 (l .place) (omega arith) i N (λ n. refl) _ tt tt) (λ N. calm Pc.K4 (l .place) (omega arith) i N (λ n. refl) _ tt tt) (λ N. calm Pc.K4 (l .place) (omega arith) i N (λ n. refl) _ tt tt)
-  claim-place Pc.E1 i l = pick-all (K Pc.E1 i) ((g .due) (i .clock) (i .x)) _ _ (λ N. calm Pc.E1 (l .place) (omega arith) i N (λ n. refl) _ tt tt) (λ N. calm Pc.E1 (l .place) (omega arith) i N (λ n. refl) _ tt tt)
-  claim-place Pc.E2 i l = pick-all (K Pc.E2 i) (eqb (i .x) (r .due)) _ _ (λ N. calm Pc.E2 (l .place) (omega arith) i N (λ n. refl) _ tt tt) (λ N. calm Pc.E2 (l .place) (omega arith) i N (λ n. refl) _ tt tt)
-  claim-place Pc.E3 i l = pick-all (K Pc.E3 i) (eqb (i .x) 0) _ _ (λ N. calm Pc.E3 (l .place) (omega arith) i N (λ n. refl) _ tt tt) (λ N. calm Pc.E3 (l .place) (omega arith) i N (λ n. refl) _ tt tt)
-  claim-place Pc.B1 i l = λ N. calm Pc.B1 (l .place) (omega arith) i N (λ n. refl) _ tt tt
-  claim-place Pc.Steal i l = pick-all (K Pc.Steal i) (eqb (shardIn r + 1) (g .shards)) _ _ (pick-all (K Pc.Steal i) (eqb (stolenFrom (stealing (i .v) r .stolen) 0 (g .shards)) (g .shards)) _ _ (all-passed (λ x. K Pc.Steal i (stores 0 (becomes x))) g _ (λ N. calm Pc.Steal (l .place) (omega arith) i N (λ n. refl) _ tt tt) (λ N. calm Pc.Steal (l .place) (omega arith) i N (λ n. refl) _ tt tt)) (λ N. calm Pc.Steal (l .place) (omega arith) i N (λ n. refl) _ tt tt)) (λ N. calmly Pc.Steal (l .place) (omega arith) refl refl i N (λ n. refl) (inShard (shardIn r + 1) (stealing (i .v) r)) (l .place) tt)
-  claim-place Pc.H1 i l = kH1 i l
-  claim-place Pc.H2 i l = kH2 i l
-  claim-place Pc.Examine i l = kExamine i l
-  claim-place Pc.Reclaim i l = kReclaim i l
-  claim-place Pc.Empty i l = pick-all (K Pc.Empty i) (eqb (i .v) 0) _ _ (pick-all (K Pc.Empty i) (eqb (shardIn r + 1) (g .shards)) _ _ (all-emptied (λ x. K Pc.Empty i (becomes x)) g _ (λ N. calm Pc.Empty (l .place) (omega arith) i N (λ n. refl) _ tt tt) (λ N. calm Pc.Empty (l .place) (omega arith) i N (λ n. refl) _ tt tt) (λ N. calm Pc.Empty (l .place) (omega arith) i N (λ n. refl) _ tt tt)) (λ N. calmly Pc.Empty (l .place) (omega arith) refl refl i N (λ n. refl) (inShard (shardIn r + 1) r) (l .place) tt)) (all-emptied (λ x. K Pc.Empty i (becomes x)) g _ (λ N. calm Pc.Empty (l .place) (omega arith) i N (λ n. refl) _ tt tt) (λ N. calm Pc.Empty (l .place) (omega arith) i N (λ n. refl) _ tt tt) (λ N. calm Pc.Empty (l .place) (omega arith) i N (λ n. refl) _ tt tt))
-  claim-place Pc.Push1 i l = λ N. calm Pc.Push1 (l .place) (omega arith) i N (λ n. refl) _ tt tt
-  claim-place Pc.Push2 i l = pick-all (K Pc.Push2 i) (eqb (i .v) (r .seen)) _ _ (pick-all (K Pc.Push2 i) (i .flag) _ _ (λ N. calmly Pc.Push2 (l .place) (omega arith) refl refl i N (λ n. refl) (Rows.seeing (i .v) r) (l .place) tt) (all-passed (λ x. K Pc.Push2 i (stores (r .unreclaimed) (also (cell.NodeNext (r .tail)) (r .seen) (becomes x)))) g _ (λ N. calm Pc.Push2 (l .place) (omega arith) i N (λ n. refl) _ tt tt) (λ N. calm Pc.Push2 (l .place) (omega arith) i N (λ n. refl) _ tt tt))) (λ N. calmly Pc.Push2 (l .place) (omega arith) refl refl i N (λ n. refl) (Rows.seeing (i .v) r) (l .place) tt)
-  claim-place Pc.C1 i l = λ N. calm Pc.C1 (l .place) (omega arith) i N (λ n. refl) _ tt tt
-  claim-place Pc.C3 i l = pick-all (K Pc.C3 i) (eqb (r .operation) 11) _ _ (λ N. calm Pc.C3 (l .place) (omega arith) i N (λ n. refl) _ tt tt) (λ N. calm Pc.C3 (l .place) (omega arith) i N (λ n. refl) _ tt tt)
-  claim-place Pc.Wait i l = pick-all (K Pc.Wait i) (eqb (i .x) 0) _ _ (λ N. calm Pc.Wait (l .place) (omega arith) i N (λ n. refl) _ tt tt) (λ N. calmly Pc.Wait (l .place) (omega arith) refl refl i N (λ n. refl) (r) (l .place) tt)
-  claim-place Pc.S1 i l = kS1 i l
-  claim-place Pc.S2 i l = kS2 i l
-  claim-place Pc.S3 i l = kS3 i l
-  claim-place Pc.Unknown i l = absurd (l .fine refl)
+  claim-place p i l =
+      every (λ (p : Pc). Look g v t p r i → r .place ≡ code p → At (λ (p : Pc) (e : Effect). K p i e) p (does g p r i))
+      (search (two, kA6 i, kN1 i, kN2 i, kN3 i, kD1 i, kV1 i, kV2 i, kV3 i, kReset i, kRaw i, kSwap i, kH1 i, kH2 i, kExamine i, kReclaim i, kS1 i, kS2 i, kS3 i, either, leaf i, stays, sits, tt, all-checked (Sit Pc.K2) g, all-checked (Sit Pc.K4) g, all-passed (Sit Pc.Steal) g, all-passed (Sit Pc.Push2) g, all-emptied (Sit Pc.Empty) g) depth 16 fits 8000) p l (l .place) .holds
 
   -- ---- 25 and 26
   pub claim-ends : (n : ℕ) → (pcOf (r .place) ≡ Pc.N1) ⊎ (pcOf (r .place) ≡ Pc.Swap) → ClaimsIn (applies t cell.Nothing (ends n) v) cl ls
@@ -953,21 +785,14 @@ module _ (g : Settings) (v : View) (ls : List (List ℕ)) (H : HeapIn g v ls) (R
         unkept c (inl w) = let a = q .1 c in omega arith
         unkept c (inr w) = let a = q .0 (w .0) (rw hl at (w .1)) in let z : code Pc.Idle ≡ code Pc.D1 = ap code (sym (ap pcOf a) ∙ w .2) in omega arith
 
-    -- the lists after a start
-    pub claim-begin : (o : Operation) → Admitted v t o → ClaimsIn (enters t (begins g o) v) cl (begunLists ls t o)
+    retire : (n x : ℕ) → Admitted v t (Retire n x) → ClaimsIn (enters t (begins g (Retire n x)) v) cl (begunLists ls t (Retire n x))
     unfolding begins
-    claim-begin Acquire a = starts _ tt tt
-    claim-begin (Release x) a = releasing x a
-    claim-begin (Protect x b) a = starts _ tt tt
-    claim-begin (Try x b n) a = starts _ tt tt
-    claim-begin (TryProtect x b n) a = starts _ tt tt
-    claim-begin (Reset x) a = starts _ tt tt
-    claim-begin (Raw x n) a = starts _ tt tt
-    claim-begin (Swap b n) a = starts _ tt tt
-    claim-begin (Retire n x) a =
+    retire n x a =
         let q = a .0 in
         let same : narrow n ≡ n = omega arith in
         retiring (narrow n) _ (rw same q) (λ b. rw same (a .2 b)) tt tt
-    claim-begin Eager a = starts _ tt tt
-    claim-begin Cleanup a = starts _ tt tt
-    claim-begin Shutdown a = shutting a _ tt tt
+
+    -- the lists after a start
+    pub claim-begin : (o : Operation) → Admitted v t o → ClaimsIn (enters t (begins g o) v) cl (begunLists ls t o)
+    unfolding begins
+    claim-begin = every-start (λ (o : Operation). Admitted v t o → ClaimsIn (enters t (begins g o) v) cl (begunLists ls t o)) (search (two, starts, releasing, retire, shutting, tt))
