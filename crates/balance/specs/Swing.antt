@@ -117,19 +117,19 @@ module _ (g : Settings) (v : View) (I : SwingIn v) (t : ℕ) (ht : t < length (v
     swing-ends m = sit c idle (omega arith)
 
     -- a row that has taken no more than the thread had
-    record Calm (x : Row) : Type 0 where
+    record Taken (x : Row) : Type 0 where
       pub le : swing x ≤ swing r
 
-    kept : {n : ℕ} (x : Row) → swing r ≡ n → swing x ≡ n → Calm x
+    kept : {n : ℕ} (x : Row) → swing r ≡ n → swing x ≡ n → Taken x
     kept x a b = record { le = omega arith }
 
-    none : (x : Row) → swing x ≡ 0 → Calm x
+    none : (x : Row) → swing x ≡ 0 → Taken x
     none x a = record { le = omega arith }
 
-    stays : (x : Row) → x .place ≡ r .place → x .rcount ≡ r .rcount → Calm x
+    stays : (x : Row) → x .place ≡ r .place → x .rcount ≡ r .rcount → Taken x
     stays x a b = record { le = rw (a, b) (omega arith) }
 
-    leaf : {p : Pc} {e : Effect} → applies t (named (accesses p r)) e v .counters .count ≡ c → applies t (named (accesses p r)) e v .counters .ticks ≡ plus (v .counters .ticks) 1 → applies t (named (accesses p r)) e v .rows ≡ set (v .rows) t (e .row) → Calm (e .row) → At K p e
+    leaf : {p : Pc} {e : Effect} → applies t (named (accesses p r)) e v .counters .count ≡ c → applies t (named (accesses p r)) e v .counters .ticks ≡ plus (v .counters .ticks) 1 → applies t (named (accesses p r)) e v .rows ≡ set (v .rows) t (e .row) → Taken (e .row) → At K p e
     leaf {p} {e} a b d h = thus (rw (a, b, d) (sit c (e .row) (let q = h .le in omega arith)))
 
     -- ---- the places that move the count, or reclaim
@@ -153,4 +153,4 @@ module _ (g : Settings) (v : View) (I : SwingIn v) (t : ℕ) (ht : t < length (v
     kC1 i l = thus (sit _ _ (let o = held Pc.C1 r (l .place) in let a : size (i .x) ≡ size c = ap size (l .x) in let b = size-plus (i .x) (r .rcount) in omega arith))
 
     pub swing-place : (p : Pc) (i : Seen) → Look g v t p r i → K p (does g p r i)
-    swing-place p i l = every (λ (p : Pc). Look g v t p r i → swing r ≡ swingOf (owe p) (r .rcount) → At K p (does g p r i)) (search (two, kT3, kK3, kE3, kReclaim, kC1, either, leaf, size-0, stays, none, kept, pick-all Calm, all-passed Calm g, all-checked Calm g, all-emptied Calm g, all-from Calm g, all-examined Calm g, all-shut Calm g) depth 16 fits 8000) p l (held p r (l .place)) .holds
+    swing-place p i l = every (λ (p : Pc). Look g v t p r i → swing r ≡ swingOf (owe p) (r .rcount) → At K p (does g p r i)) (search (two, kT3, kK3, kE3, kReclaim, kC1, either, leaf, size-0, stays, none, kept, pick-all Taken, all-passed Taken g, all-checked Taken g, all-emptied Taken g, all-from Taken g, all-examined Taken g, all-shut Taken g) depth 16 fits 8000) p l (held p r (l .place)) .holds

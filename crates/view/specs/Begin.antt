@@ -33,7 +33,7 @@ use Rattle.view.specs.Written.{Fits}
 use Rattle.view.specs.Given.{Sized, sized-of, sizes-of, view-entered, sized-entered}
 use Rattle.view.specs.Ranges.{not-first}
 use Rattle.view.specs.Calm.{Eight}
-use Rattle.view.specs.Every.{pick-all, pick-case}
+use Rattle.view.specs.Every.{every-start, two, pick-all, pick-case}
 use Rattle.view.specs.Turn.{rowIn, row-view, Fine}
 
 -- ---- what the checks of a start leave
@@ -258,48 +258,21 @@ pub data Begin (g : Settings) (s : State) (t : ℕ) (o : Operation) (w : Out) : 
 -- the cell of an entry is one, what is put into it fits, and the row has eight heads
 entry-reach : (g : Settings) (v : View) (t : ℕ) (o : Operation) → Admitted v t o → InTable (begins g o .cell)
 unfolding begins
-entry-reach g v t Acquire h = tt
-entry-reach g v t (Release a) h = h .0
-entry-reach g v t (Protect a b) h = tt
-entry-reach g v t (Try a b n) h = tt
-entry-reach g v t (TryProtect a b n) h = tt
-entry-reach g v t (Reset a) h = tt
-entry-reach g v t (Raw a n) h = tt
-entry-reach g v t (Swap b n) h = tt
-entry-reach g v t (Retire n x) h = let q = h .0 in (omega arith, omega arith)
-entry-reach g v t Eager h = tt
-entry-reach g v t Cleanup h = tt
-entry-reach g v t Shutdown h = tt
+entry-reach g v t = every-start (λ (o : Operation). Admitted v t o → InTable (begins g o .cell)) (search (two, released, retired, tt))
+  where
+    released : {a : ℕ} → Owned v t a → IsId records a
+    released h = h .0
+
+    retired : {n : ℕ} (x : ℕ) → Admitted v t (Retire n x) → IsId nodes (narrow n)
+    retired x h = let q = h .0 in (omega arith, omega arith)
 
 entry-fits : (g : Settings) (o : Operation) → Fits (begins g o .cell) (begins g o .put)
 unfolding begins
-entry-fits g Acquire = omega arith
-entry-fits g (Release a) = omega arith
-entry-fits g (Protect a b) = omega arith
-entry-fits g (Try a b n) = omega arith
-entry-fits g (TryProtect a b n) = omega arith
-entry-fits g (Reset a) = omega arith
-entry-fits g (Raw a n) = omega arith
-entry-fits g (Swap b n) = omega arith
-entry-fits g (Retire n x) = omega arith
-entry-fits g Eager = omega arith
-entry-fits g Cleanup = omega arith
-entry-fits g Shutdown = omega arith
+entry-fits g = let a : 1 < 2 ^ 32 = omega arith in let b : 2 < 2 ^ 32 = omega arith in every-start (λ (o : Operation). Fits (begins g o .cell) (begins g o .put)) (search (two, tt))
 
 entry-eight : (g : Settings) (o : Operation) → Eight (begins g o .row)
 unfolding begins
-entry-eight g Acquire = refl
-entry-eight g (Release a) = refl
-entry-eight g (Protect a b) = refl
-entry-eight g (Try a b n) = refl
-entry-eight g (TryProtect a b n) = refl
-entry-eight g (Reset a) = refl
-entry-eight g (Raw a n) = refl
-entry-eight g (Swap b n) = refl
-entry-eight g (Retire n x) = refl
-entry-eight g Eager = refl
-entry-eight g Cleanup = refl
-entry-eight g Shutdown = refl
+entry-eight g = every-start (λ (o : Operation). Eight (begins g o .row)) (search two)
 
 module _ (g : Settings) (s : State) (z : Sized s) (t : ℕ) (ht : t < threads) (o : Operation) where
   abbrev n : ℕ
