@@ -154,12 +154,9 @@ module _ (g : Settings) (v : View) (ls : List (List ℕ)) (H : HeapIn g v ls) (R
   abbrev K : Pc → Seen → Effect → Type 0
   K p i e = (N : Next g v ls t p i (applies t (named (accesses p r)) e v)) → ClaimsIn (applies t (named (accesses p r)) e v) (marks p r e cl) (N .lists)
 
-  is : (p : Pc) (x : Row) → x .place ≡ code p → pcOf (x .place) ≡ p
-  is p x e = pc-is p e
-
   -- a thread at another place than D1
   not-D1 : (p : Pc) → r .place ≡ code p → code p ≢ code Pc.D1 → pcOf (r .place) ≢ Pc.D1
-  not-D1 p e ne q = ne (ap code (sym (is p r e) ∙ q))
+  not-D1 p e ne q = ne (ap code (sym (pc-is p e) ∙ q))
 
   -- guarded sets that stay
   gs-keep : set gs t (guarded (getD gs t []) guards.Keep) ≡ gs
@@ -178,10 +175,10 @@ module _ (g : Settings) (v : View) (ls : List (List ℕ)) (H : HeapIn g v ls) (R
 
   -- the place stays, outside the scan and V2
   val-at : (p : Pc) (x : Row) → x .place ≡ code p → ValOf (scan p) hz (x .rec) (x .node) → Val hz x
-  val-at p x e h = subst (λ (q : Pc). ValOf (scan q) hz (x .rec) (x .node)) (sym (is p x e)) h
+  val-at p x e h = subst (λ (q : Pc). ValOf (scan q) hz (x .rec) (x .node)) (sym (pc-is p e)) h
 
   safe-at : (p : Pc) (x : Row) (gs′ : List (List ℕ)) (cl′ : List ℕ) (ls′ : List (List ℕ)) → x .place ≡ code p → SafeOf (scan p) next head gs′ cl′ ls′ t (x .rec) → Safe next head gs′ cl′ ls′ t x
-  safe-at p x gs′ cl′ ls′ e h = subst (λ (q : Pc). SafeOf (scan q) next head gs′ cl′ ls′ t (x .rec)) (sym (is p x e)) h
+  safe-at p x gs′ cl′ ls′ e h = subst (λ (q : Pc). SafeOf (scan q) next head gs′ cl′ ls′ t (x .rec)) (sym (pc-is p e)) h
 
   -- ---- what stands in a slot of the thread waits, and a head stands in its slot
   waits : (u j n : ℕ) → u < length rows → j < 11 → 1 ≤ occ n (getD ls (slot u j) []) → getD st n 0 ≡ 2
@@ -236,7 +233,7 @@ module _ (g : Settings) (v : View) (ls : List (List ℕ)) (H : HeapIn g v ls) (R
 
   -- the owner stores
   owner : (p : Pc) → r .place ≡ code p → hold p ≡ Hold.owns → IsId records (r .rec) × (getD ho (r .rec) 0 ≡ t + 2)
-  owner p e q = let k = subst (λ (h : Hold). KnowOf h (v .heads .headAvailable) (v .records .availableNext) ho t (r .rec) (r .next)) q (know p t ht (is p r e)) in (k .1, k .0)
+  owner p e q = let k = subst (λ (h : Hold). KnowOf h (v .heads .headAvailable) (v .records .availableNext) ho t (r .rec) (r .next)) q (know p t ht (pc-is p e)) in (k .1, k .0)
 
   mine : getD ho (r .rec) 0 ≡ t + 2 → (u : ℕ) → u < length rows → u ≢ t → getD ho (r .rec) 0 ≢ u + 2
   mine e u hu ne w = ne (omega arith)
@@ -257,8 +254,8 @@ module _ (g : Settings) (v : View) (ls : List (List ℕ)) (H : HeapIn g v ls) (R
 
   kD1 : (i : Seen) → Look g v t Pc.D1 r i → At (λ (p : Pc) (e : Effect). K p i e) Pc.D1 (does g Pc.D1 r i)
   kD1 i l = thus (λ N.
-      let k = know Pc.D1 t ht (is Pc.D1 r (l .place)) in
-      let w = RecordMoves.held-one (v .heads .headAvailable) head (v .records .availableNext) next ho rows R t ht (r .rec) (ap (λ (q : Pc). hasOf (hold q) (r .rec) (r .rec)) (is Pc.D1 r (l .place)) ∙ eq01-same (r .rec)) in
+      let k = know Pc.D1 t ht (pc-is Pc.D1 (l .place)) in
+      let w = RecordMoves.held-one (v .heads .headAvailable) head (v .records .availableNext) next ho rows R t ht (r .rec) (ap (λ (q : Pc). hasOf (hold q) (r .rec) (r .rec)) (pc-is Pc.D1 (l .place)) ∙ eq01-same (r .rec)) in
       stored i Pc.D1 N (λ n. refl) (k .1) (λ u hu ne. omega arith) 0 (goTo Pc.D2 r) tt tt)
 
   -- ---- a record that somebody owns is on the list
@@ -311,7 +308,7 @@ module _ (g : Settings) (v : View) (ls : List (List ℕ)) (H : HeapIn g v ls) (R
       live nz = I .sources (r .source) n (sym (sees l tt refl .0)) nz
 
       hzn : i .v ≡ r .node → getD hz a 0 ≡ n
-      hzn e = subst (λ (q : Pc). ValOf (scan q) hz (r .rec) (r .node)) (is Pc.V2 r (l .place)) (I .vals t ht) ∙ sym e
+      hzn e = subst (λ (q : Pc). ValOf (scan q) hz (r .rec) (r .node)) (pc-is Pc.V2 (l .place)) (I .vals t ht) ∙ sym e
 
       old : (c m : ℕ) → Claim (set cl a n) c m → ((c ≡ a) × (m ≡ n)) ⊎ Claim cl c m
       old c m k = go (ℕ-discrete c a)
@@ -382,7 +379,7 @@ module _ (g : Settings) (v : View) (ls : List (List ℕ)) (H : HeapIn g v ls) (R
 
   acquired : (p : Pc) → r .place ≡ code p → code p ≢ code Pc.D1 → hold p ≡ Hold.clear → (i : Seen) {v′ : View} (N : Next g v ls t p i v′) → ((n : ℕ) → gains p r i n ≡ 0) → i .thread ≡ t → ClaimsAt mark st src hz next head (set ho (r .rec) (i .thread + 2)) (set gs t (guarded (getD gs t []) guards.Keep)) (set rows t idle) cl (N .lists)
   acquired p e nd q i N z et =
-      let k = subst (λ (h : Hold). KnowOf h (v .heads .headAvailable) (v .records .availableNext) ho t (r .rec) (r .next)) q (know p t ht (is p r e)) in
+      let k = subst (λ (h : Hold). KnowOf h (v .heads .headAvailable) (v .records .availableNext) ho t (r .rec) (r .next)) q (know p t ht (pc-is p e)) in
       reheld p e nd i N z (r .rec) (i .thread + 2) (let a = lv .holder in let b = k .1 .1 in omega arith) (λ _. omega arith) idle tt tt
 
   kN1 : (i : Seen) → Look g v t Pc.N1 r i → At (λ (p : Pc) (e : Effect). K p i e) Pc.N1 (does g Pc.N1 r i)
@@ -419,10 +416,10 @@ module _ (g : Settings) (v : View) (ls : List (List ℕ)) (H : HeapIn g v ls) (R
   kN2 i l = thus (pick-case (K Pc.N2 i) (eqb (i .v) (r .next)) _ _ (λ e. pick-all (K Pc.N2 i) (i .flag) _ _ lost (won (eqb-true (i .v) (r .next) e))) (λ _. lost))
     where
       k : KnowOf Hold.pends (v .heads .headAvailable) (v .records .availableNext) ho t (r .rec) (r .next)
-      k = know Pc.N2 t ht (is Pc.N2 r (l .place))
+      k = know Pc.N2 t ht (pc-is Pc.N2 (l .place))
 
       fresh : occ (r .rec) (R .all) ≡ 0
-      fresh = let p = R .listed (r .rec) in let z = sum-at (off (r .rec)) rows t idle ht in let w : off (r .rec) r ≡ 1 = ap (λ (q : Pc). offOf (hold q) (r .rec) (r .rec)) (is Pc.N2 r (l .place)) ∙ eq01-same (r .rec) in omega arith
+      fresh = let p = R .listed (r .rec) in let z = sum-at (off (r .rec)) rows t idle ht in let w : off (r .rec) r ≡ 1 = ap (λ (q : Pc). offOf (hold q) (r .rec) (r .rec)) (pc-is Pc.N2 (l .place)) ∙ eq01-same (r .rec) in omega arith
 
       frame : (y rec : ℕ) (L : List ℕ) → Part next head L → Seg next rec L 0 → Seg (set next (r .rec) y) rec L 0
       frame y rec L p q = seg-frame next rec L 0 (r .rec) y (let a = p (R .all) (R .chain) (r .rec) in let b = fresh in omega arith) q
@@ -432,7 +429,7 @@ module _ (g : Settings) (v : View) (ls : List (List ℕ)) (H : HeapIn g v ls) (R
 
       lost : K Pc.N2 i (also (cell.RecordNext (r .rec)) (r .next) (becomes (Rows.withNext (i .v) r)))
       lost N = relinked i N (l .place) (set next (r .rec) (r .next)) head (λ L q n. let e = seg-unique (set next (r .rec) (r .next)) head (R .all) L (frame (r .next) head (R .all) whole (R .chain)) q in let a = ap (occ n) e in omega arith) (frame (r .next)) (Rows.withNext (i .v) r)
-          (val-at Pc.N2 (Rows.withNext (i .v) r) (l .place) tt) (subst (λ (q : Pc). SafeOf (scan q) (set next (r .rec) (r .next)) head gs cl (N .lists) t (r .rec)) (sym (is Pc.N2 r (l .place))) tt)
+          (val-at Pc.N2 (Rows.withNext (i .v) r) (l .place) tt) (subst (λ (q : Pc). SafeOf (scan q) (set next (r .rec) (r .next)) head gs cl (N .lists) t (r .rec)) (sym (pc-is Pc.N2 (l .place))) tt)
 
       won : i .v ≡ r .next → K Pc.N2 i (stores (r .rec) (also (cell.RecordNext (r .rec)) (r .next) (becomes (goTo Pc.N3 r))))
       won e N = relinked i N (l .place) (set next (r .rec) (r .next)) (r .rec) more (frame (r .next)) (goTo Pc.N3 r) tt tt
@@ -533,7 +530,7 @@ module _ (g : Settings) (v : View) (ls : List (List ℕ)) (H : HeapIn g v ls) (R
       (q .0, subst (λ (a : ℕ). Seg next a (q .0) 0) nx (q .4), eqb-false (i .w) 0 e, (λ L y n. let a = d .3 L y n in let b = ap (occ n) (q .1) in omega arith), λ c n k m. seen c n k (was-stolen Pc.H2 i N refl n m)))))
     where
       d : SafeOf Scan.during next head gs cl ls t (r .rec)
-      d = subst (λ (p : Pc). SafeOf (scan p) next head gs cl ls t (r .rec)) (is Pc.H2 r (l .place)) (I .safe t ht)
+      d = subst (λ (p : Pc). SafeOf (scan p) next head gs cl ls t (r .rec)) (pc-is Pc.H2 (l .place)) (I .safe t ht)
 
       w : List ℕ
       w = guarded (getD gs t []) (guards.Set (i .v))
@@ -580,7 +577,7 @@ module _ (g : Settings) (v : View) (ls : List (List ℕ)) (H : HeapIn g v ls) (R
 
   -- ---- examining and reclaiming
   after-at : (p : Pc) → r .place ≡ code p → scan p ≡ Scan.after → (c n : ℕ) → Claim cl c n → Stolen ls t n → Guarded gs t n
-  after-at p e q = subst (λ (h : Scan). SafeOf h next head gs cl ls t (r .rec)) q (subst (λ (h : Pc). SafeOf (scan h) next head gs cl ls t (r .rec)) (is p r e) (I .safe t ht))
+  after-at p e q = subst (λ (h : Scan). SafeOf h next head gs cl ls t (r .rec)) q (subst (λ (h : Pc). SafeOf (scan h) next head gs cl ls t (r .rec)) (pc-is p e) (I .safe t ht))
 
   kExamine : (i : Seen) → Look g v t Pc.Examine r i → At (λ (p : Pc) (e : Effect). K p i e) Pc.Examine (does g Pc.Examine r i)
   kExamine i l =

@@ -76,15 +76,12 @@ module _ (g : Settings) (v : View) (I : ZoneIn v) (t : ℕ) (ht : t < length (v 
   abbrev Sit : Row → Type 0
   Sit x = Zone (v .heads .mark) (set (v .rows) t x)
 
-  is : (p : Pc) → r .place ≡ code p → pcOf (r .place) ≡ p
-  is p e = pc-is p e
-
   -- at a place of shutdown every row is idle or there
   pub all-shut-rows : (p : Pc) → r .place ≡ code p → (Open (side p) → ⊥) → (v .heads .mark ≢ 0) × ((u : ℕ) → u < length (v .rows) → ShutRow (getD (v .rows) u idle))
   all-shut-rows p e not = go I
     where
       go : ZoneIn v → (v .heads .mark ≢ 0) × ((u : ℕ) → u < length (v .rows) → ShutRow (getD (v .rows) u idle))
-      go (inl m) = absurd (not (subst (λ (q : Pc). Open (side q)) (is p e) (m .1 t ht)))
+      go (inl m) = absurd (not (subst (λ (q : Pc). Open (side q)) (pc-is p e) (m .1 t ht)))
       go (inr m) = m
 
   pub mark-open : (p : Pc) → r .place ≡ code p → (Shut (side p) → ⊥) → v .heads .mark ≡ 0
@@ -92,7 +89,7 @@ module _ (g : Settings) (v : View) (I : ZoneIn v) (t : ℕ) (ht : t < length (v 
     where
       go : ZoneIn v → v .heads .mark ≡ 0
       go (inl m) = m .0
-      go (inr m) = absurd (not (subst (λ (q : Pc). Shut (side q)) (is p e) (m .1 t ht)))
+      go (inr m) = absurd (not (subst (λ (q : Pc). Shut (side q)) (pc-is p e) (m .1 t ht)))
 
   -- no step crosses over: the row after a step at p is on p's side, or idle
   abbrev Onward : Side → Row → Type 0
@@ -101,7 +98,7 @@ module _ (g : Settings) (v : View) (I : ZoneIn v) (t : ℕ) (ht : t < length (v 
   Onward shutting x = ShutRow x
 
   onward : (p : Pc) → r .place ≡ code p → (x : Row) → Onward (side p) x → Sit x
-  onward p e x = go (side p) (subst (λ (q : Pc). Open (side q)) (is p e)) (subst (λ (q : Pc). Shut (side q)) (is p e)) I
+  onward p e x = go (side p) (subst (λ (q : Pc). Open (side q)) (pc-is p e)) (subst (λ (q : Pc). Shut (side q)) (pc-is p e)) I
     where
       open′ : ((u : ℕ) → u < length (v .rows) → OpenRow (getD (v .rows) u idle)) → OpenRow x → (u : ℕ) → u < length (set (v .rows) t x) → OpenRow (getD (set (v .rows) t x) u idle)
       open′ f o = each-set idle (λ u y. OpenRow y) (λ u y. OpenRow y) (v .rows) t x ht (λ u hu ne q. q) o f
@@ -127,12 +124,12 @@ module _ (g : Settings) (v : View) (I : ZoneIn v) (t : ℕ) (ht : t < length (v 
   here p e = go (side p) refl
     where
       go : (s : Side) → side p ≡ s → Onward s r
-      go inside q = subst (λ (w : Pc). Open (side w)) (sym (is p e)) (rw q tt)
+      go inside q = subst (λ (w : Pc). Open (side w)) (sym (pc-is p e)) (rw q tt)
       go idle′ q = refl
-      go shutting q = subst (λ (w : Pc). Shut (side w)) (sym (is p e)) (rw q tt)
+      go shutting q = subst (λ (w : Pc). Shut (side w)) (sym (pc-is p e)) (rw q tt)
 
   pub zone-place : (p : Pc) (i : Seen) → Look g v t p r i → K p (does g p r i)
-  zone-place p i l = every (λ (p : Pc). r .place ≡ code p → Onward (side p) r → At K p (does g p r i)) (search (two, either, kS3, leaf, tt, pick-all OpenRow, pick-all ShutRow, all-passed OpenRow g, all-checked OpenRow g, all-emptied OpenRow g, all-from OpenRow g, all-examined OpenRow g, all-reclaimed OpenRow g, all-shut ShutRow g) depth 16 fits 8000) p (l .place) (here p (l .place)) .holds
+  zone-place p i l = every (λ (p : Pc). r .place ≡ code p → Onward (side p) r → At K p (does g p r i)) (search (two, either, kS3, leaf, tt, pick-all ShutRow, all-passed OpenRow g, all-checked OpenRow g, all-emptied OpenRow g, all-from OpenRow g, all-examined OpenRow g, all-reclaimed OpenRow g, all-shut ShutRow g) depth 16 fits 8000) p (l .place) (here p (l .place)) .holds
 
   pub zone-ends : (n : ℕ) → (pcOf (r .place) ≡ Pc.N1) ⊎ (pcOf (r .place) ≡ Pc.Swap) → ZoneIn (applies t cell.Nothing (ends n) v)
   zone-ends n w = go I
