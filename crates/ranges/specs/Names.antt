@@ -6,7 +6,7 @@ use native.Mathlib.Omega.{arith}
 use lib.Dec.{eqb}
 use lib.ListN.{getD}
 use borrow.Author.Tests.{eqb-true, eqb-false}
-use Rattle.rules.specs.Sizes.{records, sources, nodes, threads, Settings}
+use Rattle.rules.specs.Sizes.{records, sources, threads, Settings}
 use Rattle.rules.specs.Pc
 use Rattle.rules.specs.Pc.{Pc, code}
 use Rattle.rules.specs.Cells.{most, aHolder, anAvailable}
@@ -19,10 +19,11 @@ use Rattle.view.specs.Field.{IsId}
 use Rattle.view.specs.View.{View, InTable, get, named}
 use Rattle.view.specs.Written.{plain}
 use Rattle.view.specs.Ranges.{limit}
-use Rattle.view.specs.Every.{pick-all, pick-case}
+use Rattle.view.specs.Every.{every, two, pick-all, pick-case}
 use Rattle.view.specs.Turn.{beside}
-use Rattle.heap.specs.Stage.{Allowed, ShapeOf, stage}
-use Rattle.records.specs.Hold.{KnowOf, hold}
+use Rattle.heap.specs.Stage.{Allowed, Want, Is, ShapeOf, stage}
+use Rattle.records.specs.Hold
+use Rattle.records.specs.Hold.{Hold, KnowOf, hold}
 use Rattle.ranges.specs.Range.{uses, Fit, Ranges}
 
 -- ---- contents
@@ -64,66 +65,58 @@ pub record Known (g : Settings) (v : View) (t : ℕ) (r : Row) : Type 0 where
   pub scan : r .place ≡ code Pc.H2 → r .rec ≢ 0
 
 module _ (g : Settings) (v : View) (t : ℕ) (r : Row) (K : Known g v t r) where
-  from-source : (p : Pc) → r .place ≡ code p → 0 < uses (code p) → IsId sources (r .source)
-  from-source p e h = let a = subst (λ (n : ℕ). uses n ≤ r .source) e (K .fit .words .sourced) in let b = K .fit .words .source in omega arith
+  record In (c : Named) : Type 0 where
+    pub table : InTable c
 
-  -- Examine's node
-  first-node : r .shard < g .shards → getD (r .stolen) (r .shard) 0 ≢ 0 → IsId nodes (first r)
-  first-node h ne =
+  in-table : {c : Named} → InTable c → In c
+  in-table h = record { table = h }
+
+  -- the row's source, which V0 to V3 and a swap use
+  source : 0 < r .source → In (cell.Source (r .source))
+  source h = let a = K .fit .words .source in record { table = omega arith }
+
+  -- the row's record: who has the lock saw it at the head, and who holds or owns one knows it
+  abbrev Knows : Hold → Type 0
+  Knows h = KnowOf h (v .heads .headAvailable) (v .records .availableNext) (v .records .holder) t (r .rec) (r .next)
+
+  locked : Knows Hold.locks → In (cell.AvailableNext (r .rec))
+  locked h = let a = K .fit .words .rec in let b = h .1 in record { table = omega arith }
+
+  held : Knows Hold.clear → In (cell.AvailableNext (r .rec))
+  held h = record { table = h .1 }
+
+  given : Knows Hold.clear → In (cell.Hazard (r .rec))
+  given h = record { table = h .1 }
+
+  owned : Knows Hold.owns → In (cell.Hazard (r .rec))
+  owned h = record { table = h .1 }
+
+  scanned : r .place ≡ code Pc.H2 → In (cell.Hazard (r .rec))
+  scanned e = let k = K .scan e in let a = K .fit .words .rec in record { table = omega arith }
+
+  -- a shard, and the first one, where a kept list is pushed
+  shard : {gone : ℕ → Type 0} {a b c : Want} → Is gone a b c (r .shard < g .shards) r → In (cell.ShardHead (r .shard))
+  shard h = let k = h .here in let a = K .allowed .most in record { table = omega arith }
+
+  shard-0 : In (cell.ShardHead 0)
+  shard-0 = record { table = omega arith }
+
+  -- the node to examine, and the node to reclaim
+  examined : {gone : ℕ → Type 0} {a b c : Want} → Is gone a b c ((r .shard < g .shards) × (getD (r .stolen) (r .shard) 0 ≢ 0)) r → In (cell.NodeNext (first r))
+  examined h =
+      let k = h .here .0 in
+      let ne = h .here .1 in
       let e : shardIn r ≡ r .shard = let a = K .allowed .most in omega arith in
-      let b = K .fit .stolen (shardIn r) in
-      rw e (let c = K .fit .stolen (r .shard) in omega arith)
+      record { table = rw e (let c = K .fit .stolen (r .shard) in omega arith) }
+
+  reclaimed : {gone : ℕ → Type 0} {b c : Want} {X : Type 0} → Is gone Want.some b c X r → In (cell.NodeNext (r .reclaimable))
+  reclaimed h = let ne = h .reclaim in let a = K .fit .words .reclaimable in record { table = omega arith }
 
   -- the cell of each place's access
   pub reach : (p : Pc) → r .place ≡ code p → InTable (named (accesses p r))
-  reach Pc.Idle e = tt
-  reach Pc.A1 e = tt
-  reach Pc.A2 e = tt
-  reach Pc.A3 e = let k = K .know Pc.A3 e in omega arith
-  reach Pc.A4 e = tt
-  reach Pc.A5 e = K .know Pc.A5 e
-  reach Pc.A6 e = K .know Pc.A6 e .1
-  reach Pc.N1 e = tt
-  reach Pc.N2 e = tt
-  reach Pc.N3 e = tt
-  reach Pc.D1 e = K .know Pc.D1 e .1
-  reach Pc.D2 e = K .know Pc.D2 e .1
-  reach Pc.P1 e = tt
-  reach Pc.P2 e = K .know Pc.P2 e
-  reach Pc.P3 e = tt
-  reach Pc.V0 e = from-source Pc.V0 e (omega arith)
-  reach Pc.V1 e = K .know Pc.V1 e .1
-  reach Pc.V2 e = from-source Pc.V2 e (omega arith)
-  reach Pc.V3 e = K .know Pc.V3 e .1
-  reach Pc.Reset e = K .know Pc.Reset e .1
-  reach Pc.Raw e = K .know Pc.Raw e .1
-  reach Pc.Swap e = from-source Pc.Swap e (omega arith)
-  reach Pc.T1 e = let k = K .shape Pc.T1 e .here in omega arith
-  reach Pc.T2 e = let k = K .shape Pc.T2 e .here in omega arith
-  reach Pc.T3 e = tt
-  reach Pc.K1 e = tt
-  reach Pc.K2 e = tt
-  reach Pc.K3 e = tt
-  reach Pc.K4 e = tt
-  reach Pc.E1 e = tt
-  reach Pc.E2 e = tt
-  reach Pc.E3 e = tt
-  reach Pc.B1 e = tt
-  reach Pc.Steal e = let k = K .shape Pc.Steal e .here in omega arith
-  reach Pc.H1 e = tt
-  reach Pc.H2 e = let k = K .scan e in omega arith
-  reach Pc.Examine e = let k = K .shape Pc.Examine e .here in first-node (k .0) (k .1)
-  reach Pc.Reclaim e = let k = K .shape Pc.Reclaim e .reclaim in omega arith
-  reach Pc.Empty e = let k = K .shape Pc.Empty e .here in omega arith
-  reach Pc.Push1 e = omega arith
-  reach Pc.Push2 e = omega arith
-  reach Pc.C1 e = tt
-  reach Pc.C3 e = tt
-  reach Pc.Wait e = tt
-  reach Pc.S1 e = let k = K .shape Pc.S1 e .here in omega arith
-  reach Pc.S2 e = let k = K .shape Pc.S2 e .reclaim in omega arith
-  reach Pc.S3 e = tt
-  reach Pc.Unknown e = tt
+  reach p e =
+      every (λ (p : Pc). r .place ≡ code p → Knows (hold p) → ShapeOf g (stage p) r → uses (code p) ≤ r .source → In (named (accesses p r))) (search (two, in-table, tt, locked, held, given, owned, scanned, source, shard, shard-0, examined, reclaimed) depth 12 fits 4000)
+      p e (K .know p e) (K .shape p e) (subst (λ (n : ℕ). uses n ≤ r .source) e (K .fit .words .sourced)) .table
 
   -- and the one beside it, where u is what N1 found
   pub beyond : (p : Pc) (u : ℕ) → r .place ≡ code p → (u ≢ 0 → IsId records u) → InTable (beside p r u)
