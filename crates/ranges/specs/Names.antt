@@ -54,13 +54,17 @@ holds g v I ne (cell.NodeNext n) = let q = I .next n in omega arith
 holds g v I ne (cell.NodeState n) = let q = I .state n in omega arith
 
 -- ---- what the layers know of thread t, whose row is r
+-- at a place of class h, of its record
+abbrev pub Knows : View → ℕ → Row → Hold → Type 0
+Knows v t r h = KnowOf h (v .heads .headAvailable) (v .records .availableNext) (v .records .holder) t (r .rec) (r .next)
+
 pub record Known (g : Settings) (v : View) (t : ℕ) (r : Row) : Type 0 where
   pub allowed : Allowed g
   pub thread : t < threads
   pub inside : r .place ≢ 0
   pub fit : Fit g r
   pub held : (c : Named) → Held c (get c v)
-  pub know : (p : Pc) → r .place ≡ code p → KnowOf (hold p) (v .heads .headAvailable) (v .records .availableNext) (v .records .holder) t (r .rec) (r .next)
+  pub know : (p : Pc) → r .place ≡ code p → Knows v t r (hold p)
   pub shape : (p : Pc) → r .place ≡ code p → ShapeOf g (stage p) r
   pub scan : r .place ≡ code Pc.H2 → r .rec ≢ 0
 
@@ -76,19 +80,16 @@ module _ (g : Settings) (v : View) (t : ℕ) (r : Row) (K : Known g v t r) where
   source h = let a = K .fit .words .source in record { table = omega arith }
 
   -- the row's record: who has the lock saw it at the head, and who holds or owns one knows it
-  abbrev Knows : Hold → Type 0
-  Knows h = KnowOf h (v .heads .headAvailable) (v .records .availableNext) (v .records .holder) t (r .rec) (r .next)
-
-  locked : Knows Hold.locks → In (cell.AvailableNext (r .rec))
+  locked : Knows v t r Hold.locks → In (cell.AvailableNext (r .rec))
   locked h = let a = K .fit .words .rec in let b = h .1 in record { table = omega arith }
 
-  held : Knows Hold.clear → In (cell.AvailableNext (r .rec))
+  held : Knows v t r Hold.clear → In (cell.AvailableNext (r .rec))
   held h = record { table = h .1 }
 
-  given : Knows Hold.clear → In (cell.Hazard (r .rec))
+  given : Knows v t r Hold.clear → In (cell.Hazard (r .rec))
   given h = record { table = h .1 }
 
-  owned : Knows Hold.owns → In (cell.Hazard (r .rec))
+  owned : Knows v t r Hold.owns → In (cell.Hazard (r .rec))
   owned h = record { table = h .1 }
 
   scanned : r .place ≡ code Pc.H2 → In (cell.Hazard (r .rec))
@@ -115,7 +116,7 @@ module _ (g : Settings) (v : View) (t : ℕ) (r : Row) (K : Known g v t r) where
   -- the cell of each place's access
   pub reach : (p : Pc) → r .place ≡ code p → InTable (named (accesses p r))
   reach p e =
-      every (λ (p : Pc). r .place ≡ code p → Knows (hold p) → ShapeOf g (stage p) r → uses (code p) ≤ r .source → In (named (accesses p r))) (search (two, in-table, tt, locked, held, given, owned, scanned, source, shard, shard-0, examined, reclaimed) depth 12 fits 4000)
+      every (λ (p : Pc). r .place ≡ code p → Knows v t r (hold p) → ShapeOf g (stage p) r → uses (code p) ≤ r .source → In (named (accesses p r))) (search (two, in-table, tt, locked, held, given, owned, scanned, source, shard, shard-0, examined, reclaimed) depth 12 fits 4000)
       p e (K .know p e) (K .shape p e) (subst (λ (n : ℕ). uses n ≤ r .source) e (K .fit .words .sourced)) .table
 
   -- and the one beside it, where u is what N1 found

@@ -64,6 +64,9 @@ below-set m l i x h b k = go (ℕ-discrete k i) (decLt i (length l))
     go (yes e) (no q) = rw (set-out l i x (omega arith)) (b k)
     go (no e) q = rw (getD-set-other l i k x 0 e) (b k)
 
+pub below-idle : Below nodes (idle .stolen)
+below-idle k = rw (zeros 8 k) (omega arith)
+
 pub below-cleared : (m : ℕ) (l : List ℕ) → Below m (cleared l)
 below-cleared m l k = rw (zeros (length l) k) (omega arith)
 

@@ -1,5 +1,5 @@
 -- Every step and start keeps everything in its range, and what the layers know together is what a step needs not to meet 29.
-use Prim.Native.Nat.{ℕ, zero, suc, _≤_, _<_}
+use Prim.Native.Nat.{ℕ, suc, _≤_, _<_}
 use mathlib.Core.Path.{_≡_, refl, sym, ap, _∙_, subst}
 use mathlib.Core.Logic.{_≢_}
 use mathlib.Core.List.{List, [], _∷_}
@@ -21,7 +21,6 @@ use Rattle.rules.specs.declared.Seen.{Seen}
 use Rattle.rules.specs.declared.Entry.{Entry}
 use Rattle.rules.specs.declared.Named.the-variants as cell
 use Rattle.lists.specs.Occ.{sum}
-use Rattle.lists.specs.Tab.{zeros}
 use Rattle.view.specs.Every.{pc-is}
 use Rattle.view.specs.View.{View, named, applies, enters}
 use Rattle.view.specs.Ranges.{limit}
@@ -31,8 +30,8 @@ use Rattle.heap.specs.Stage.{Allowed, HeapIn, ShapeOf, stage}
 use Rattle.records.specs.Hold
 use Rattle.records.specs.Hold.{Hold, hold, lockOf, lock, KnowOf, RecordsIn}
 use Rattle.claims.specs.Claim.{ClaimsIn, SafeOf, scan}
-use Rattle.ranges.specs.Range.{Words, Below, Ranges, applied, entered}
-use Rattle.ranges.specs.Names.{Known, holds, reach, beyond}
+use Rattle.ranges.specs.Range.{Words, Below, below-idle, Ranges, applied, entered}
+use Rattle.ranges.specs.Names.{Knows, Known, holds, reach, beyond}
 use Rattle.ranges.specs.Right.{right}
 use Rattle.ranges.specs.Tests.{in-range}
 
@@ -82,7 +81,7 @@ module _ (g : Settings) (A : Allowed g) (v : View) (ls : List (List ℕ)) (H : H
       inside = nz;
       fit = I .rows t inside;
       held = holds g v I (not-bit v R);
-      know = λ p e. subst (λ (q : Pc). KnowOf (hold q) (v .heads .headAvailable) (v .records .availableNext) (v .records .holder) t (r .rec) (r .next)) (is p e) (R .know t inside);
+      know = λ p e. subst (λ (q : Pc). Knows v t r (hold q)) (is p e) (R .know t inside);
       shape = λ p e. subst (λ (q : Pc). ShapeOf g (stage q) r) (is p e) (H .shape t inside);
       scan = λ e. subst (λ (q : Pc). SafeOf (scan q) (v .records .next) (v .heads .recordHead) (v .guards) cl ls t (r .rec)) (is Pc.H2 e) (S .safe t inside) .2;
     }
@@ -101,11 +100,8 @@ module _ (g : Settings) (A : Allowed g) (v : View) (ls : List (List ℕ)) (H : H
         let k = right g v t r (known nz) p i (seen-of l) in
         applied g v t (named (accesses p r)) (does g p r i) inside (k .writes .put) (k .writes .to) (k .row) I
 
-    none : Below nodes (idle .stolen)
-    none k = rw (zeros 8 k) (omega arith)
-
     pub range-ends : (n : ℕ) → Ranges g (applies t cell.Nothing (ends n) v)
-    range-ends n = applied g v t cell.Nothing (ends n) inside (omega arith) (omega arith) (record { words = omega arith; stolen = none }) I
+    range-ends n = applied g v t cell.Nothing (ends n) inside (omega arith) (omega arith) (record { words = omega arith; stolen = below-idle }) I
 
     module _ (hs : (x : ℕ) → shardOf g x < g .shards) where
       -- what a start puts, and its row, which has stolen nothing
@@ -128,4 +124,4 @@ module _ (g : Settings) (A : Allowed g) (v : View) (ls : List (List ℕ)) (H : H
       begun Shutdown a = (omega arith, refl)
 
       pub range-begin : (o : Operation) → Admitted v t o → Ranges g (enters t (begins g o) v)
-      range-begin o a = let b = begun o a in entered g v t (begins g o) inside (b .0 .0) (record { words = b .0 .1; stolen = subst (Below nodes) (sym (b .1)) none }) I
+      range-begin o a = let b = begun o a in entered g v t (begins g o) inside (b .0 .0) (record { words = b .0 .1; stolen = subst (Below nodes) (sym (b .1)) below-idle }) I

@@ -1,33 +1,36 @@
 -- A step's effect, place by place: what it writes is in range, the row that it leaves too, the cell that it writes besides is one, and its answer is not 16 or 29.
-use Prim.Native.Nat.{ℕ, _+_, _*_, _-_, _≤_}
+use Prim.Native.Nat.{ℕ, _+_, _*_, _-_, _/_, _%_, _^_, _≤_, zero-le}
 use mathlib.Core.Path.{_≡_, subst}
-use mathlib.Core.Bool.{Bool, false}
+use mathlib.Core.Bool.{Bool, true, false}
 use native.Mathlib.Omega.{arith}
-use lib.Dec.{eqb}
-use borrow.Author.Tests.{eqb-false}
+use lib.Dec.{eqb, ltb}
+use borrow.Author.Tests.{eqb-false, ltb-false, le-ltb}
 use Rattle.base.specs.Pick.{pick}
-use Rattle.rules.specs.Sizes.{records, nodes, Settings}
-use Rattle.rules.specs.Words.{locked, over}
+use Rattle.rules.specs.Sizes.{records, sources, nodes, threads, Settings}
+use Rattle.rules.specs.Words.{withLock}
 use Rattle.rules.specs.Pc
 use Rattle.rules.specs.Pc.{Pc, code}
-use Rattle.rules.specs.Rows.{idle, first, shardIn, stealing, keeping, stolenFrom}
-use Rattle.rules.specs.Places.{accesses, does, examineFrom, examined, reclaimed, shutNext}
+use Rattle.rules.specs.Rows.{first, shardIn, stealing, keeping, stolenFrom}
+use Rattle.rules.specs.Places.{accesses, does, damaged, examineFrom, examined, reclaimed, shutNext}
 use Rattle.rules.specs.declared.Row.{Row}
 use Rattle.rules.specs.declared.Seen.{Seen}
 use Rattle.rules.specs.declared.Effect.{Effect}
 use Rattle.rules.specs.declared.Named.{Named}
 use Rattle.rules.specs.declared.Named.the-variants as cell
 use Rattle.bits.specs.BitLaws.{with-lock}
-use Rattle.lists.specs.Tab.{zeros}
 use Rattle.view.specs.Field.{IsId}
 use Rattle.view.specs.View.{View, InTable, named}
 use Rattle.view.specs.Ranges.{limit}
-use Rattle.view.specs.Every.{pick-all, pick-case}
+use Rattle.view.specs.Every.{every, two, At, pick-all, pick-case}
 use Rattle.view.specs.Rest.{all-passed, all-checked, all-emptied}
 use Rattle.view.specs.Turn.{beside, Sees, Fine}
+use Rattle.heap.specs.Stage
+use Rattle.heap.specs.Stage.{Stage, stage, ShapeOf}
 use Rattle.heap.specs.Onward.{found}
-use Rattle.ranges.specs.Range.{uses, Words, Below, below-set, Fit}
-use Rattle.ranges.specs.Names.{Known}
+use Rattle.records.specs.Hold
+use Rattle.records.specs.Hold.{Hold, hold}
+use Rattle.ranges.specs.Range.{uses, Words, Below, below-set, below-idle, Fit}
+use Rattle.ranges.specs.Names.{Knows, Known}
 
 pub record Writes (c : Named) (e : Effect) : Type 0 where
   pub put : e .put ≤ limit c
@@ -49,20 +52,27 @@ module _ (g : Settings) (v : View) (t : ℕ) (r : Row) (C : Known g v t r) where
   fit : {x : Row} → Words g x → Below nodes (x .stolen) → Fit g x
   fit w s = record { words = w; stolen = s }
 
-  row : {c : Named} {e : Effect} → Writes c e → Fit g (e .row) → Right g c e
-  row w f = record { writes = w; row = f }
+  leaf : {p : Pc} {e : Effect} → e .put ≤ limit (named (accesses p r)) → e .to ≤ limit (e .also) → InTable (e .also) → eqb (e .number) 16 ≡ false → eqb (e .number) 29 ≡ false → Fit g (e .row) → At K p e
+  leaf {p} {e} a b c m n f = record { holds = record { writes = record { put = a; to = b; also = c; fine = (eqb-false (e .number) 16 m, eqb-false (e .number) 29 n) }; row = f } }
 
-  leaf : {c : Named} {e : Effect} → Writes c e × Words g (e .row) → Below nodes (e .row .stolen) → Right g c e
-  leaf w s = row (w .0) (fit (w .1) s)
+  either-case : {p : Pc} (b : Bool) (x y : Effect) → (b ≡ true → At K p x) → (b ≡ false → At K p y) → At K p (pick b x y)
+  either-case {p} b x y h k = pick-case (At K p) b x y h k
 
-  same : Below nodes (r .stolen)
-  same = z .stolen
+  -- a row, word by word
+  words : {x : Row} → ltb (code Pc.S3) (x .place) ≡ false → x .operation ≤ 12 → x .rec ≤ records → x .next ≤ records → x .source ≤ sources → uses (x .place) ≤ x .source → x .node ≤ nodes → x .seen ≤ nodes → x .shard ≤ g .shards - 1 → x .lone ≤ nodes → x .reclaimable ≤ nodes → x .unreclaimed ≤ nodes → x .tail ≤ nodes → x .unreclaimed ≤ nodes * x .tail → x .done ≤ 2 → Below nodes (x .stolen) → Fit g x
+  words {x} a b c d e f h i j k l m n o p s = fit (record { place = ltb-false (code Pc.S3) (x .place) a; operation = b; rec = c; next = d; source = e; sourced = f; node = h; seen = i; shard = j; lone = k; reclaimable = l; unreclaimed = m; tail = n; tailed = o; done = p }) s
 
-  none : Below nodes (idle .stolen)
-  none k = rw (zeros 8 k) (omega arith)
+  least : (n : ℕ) → 0 ≤ n
+  least n = zero-le
+
+  wraps : (n : ℕ) → n % 2 ^ 64 ≤ 18446744073709551615
+  wraps n = omega arith
+
+  half : (n : ℕ) → n ≤ 2 * records + 1 → n / 2 ≤ records
+  half n h = omega arith
 
   stole : (n : ℕ) → n ≤ nodes → Below nodes (stealing n r .stolen)
-  stole n h = below-set nodes (r .stolen) (shardIn r) n h same
+  stole n h = below-set nodes (r .stolen) (shardIn r) n h (z .stolen)
 
   -- ---- what is read
   saw : {p : Pc} {i : Seen} → Sees v t p r i → i .v ≤ limit (named (accesses p r))
@@ -72,12 +82,11 @@ module _ (g : Settings) (v : View) (t : ℕ) (r : Row) (C : Known g v t r) where
   saws {p} {i} l = let a = C .held (beside p r (i .untaken)) .limit in let b = l .y in let c = l .w in omega arith
 
   -- what N1 takes is a record
-  taken : {i : Seen} → Sees v t Pc.N1 r i → eqb (i .untaken) 0 ≡ false → IsId records (i .untaken)
-  taken {i} l e = subst (λ (b : Bool). InTable (pick b cell.Nothing (cell.Holder (i .untaken)))) e (l .beyond)
+  taken : (i : Seen) → Sees v t Pc.N1 r i → eqb (i .untaken) 0 ≡ false → IsId records (i .untaken)
+  taken i l e = subst (λ (b : Bool). InTable (pick b cell.Nothing (cell.Holder (i .untaken)))) e (l .beyond)
 
-  -- V0 to V3 have a source
-  sourced : (p : Pc) → r .place ≡ code p → uses (code p) ≤ r .source
-  sourced p e = subst (λ (n : ℕ). uses n ≤ r .source) e (z .words .sourced)
+  taken-in : (i : Seen) → Sees v t Pc.N1 r i → eqb (i .untaken) 0 ≡ false → i .untaken ≤ records
+  taken-in i l e = taken i l e .1
 
   -- ---- where a pass goes on
   fit-from : (k : ℕ) (x : Row) → k ≤ g .shards → Fit g x → Fit g (examineFrom g k x)
@@ -105,61 +114,47 @@ module _ (g : Settings) (v : View) (t : ℕ) (r : Row) (C : Known g v t r) where
       let a = onward x f in
       pick-case (Fit g) (eqb (shardIn x + 1) (g .shards)) _ _ (λ _. fit (omega arith) (f .stolen)) (λ e. let n = eqb-false (shardIn x + 1) (g .shards) e in fit (omega arith) (f .stolen))
 
-  -- ---- the table
+  -- ---- what a place knows besides
+  kIdle : (i : Seen) → Sees v t Pc.Idle r i → At K Pc.Idle (damaged r)
+  kIdle i l = absurd (C .inside (l .place))
+
+  kUnknown : (i : Seen) → Sees v t Pc.Unknown r i → At K Pc.Unknown (damaged r)
+  kUnknown i l = absurd (let a = z .words .place in let b = l .place in omega arith)
+
+  -- a released record has no `available_next`
+  kD2 : (i : Seen) → Sees v t Pc.D2 r i → Knows v t r Hold.clear → eqb (i .v) 0 ≡ false → At K Pc.D2 (damaged r)
+  kD2 i l k e = absurd (eqb-false (i .v) 0 e (let a = k .0 in let b = l .x in let c = l .v in omega arith))
+
+  record-in : Knows v t r Hold.clear → IsId records (r .rec)
+  record-in k = k .1
+
+  put-in : eqb (r .node) 0 ≡ false → IsId nodes (r .node)
+  put-in e = let n = eqb-false (r .node) 0 e in omega arith
+
+  lone-in : ShapeOf g Stage.lone r → IsId nodes (r .lone)
+  lone-in k = let a = k .lone in omega arith
+
+  tail-in : ShapeOf g Stage.pushes r → IsId nodes (r .tail)
+  tail-in k = let a = k .keep in omega arith
+
+  next-shard : eqb (shardIn r + 1) (g .shards) ≡ false → shardIn r + 1 ≤ g .shards - 1
+  next-shard e = let n = eqb-false (shardIn r + 1) (g .shards) e in let d = onward r z in omega arith
+
+  -- a node that is kept is the last where none was
+  kept : (n : ℕ) → n ≤ nodes → IsId nodes (first r) → Fit g (keeping (first r) (pick (eqb (r .unreclaimed) 0) (first r) (r .tail)) (stealing n r))
+  kept n h q = pick-case (λ (y : ℕ). Fit g (keeping (first r) y (stealing n r))) (eqb (r .unreclaimed) 0) _ _ (λ _. fit (omega arith) (stole n h)) (λ e. let b = eqb-false (r .unreclaimed) 0 e in fit (omega arith) (stole n h))
+
   pub right : (p : Pc) (i : Seen) → Sees v t p r i → K p (does g p r i)
-  right Pc.Idle i l = absurd (C .inside (l .place))
-  right Pc.A1 i l = let a = saw l in pick-all (K Pc.A1) (locked (i .v)) _ _ (leaf (omega arith) same) (pick-all (K Pc.A1) (eqb (i .v) 0) _ _ (leaf (omega arith) same) (leaf (omega arith) same))
-  right Pc.A2 i l = let w = with-lock (r .rec) in pick-all (K Pc.A2) (eqb (i .v) (r .rec * 2)) _ _ (pick-all (K Pc.A2) (i .flag) _ _ (leaf (omega arith) same) (leaf (omega arith) same)) (leaf (omega arith) same)
-  right Pc.A3 i l = let a = saw l in leaf (omega arith) same
-  right Pc.A4 i l = leaf (omega arith) same
-  right Pc.A5 i l = leaf (omega arith) same
-  right Pc.A6 i l = let k = l .reach in let a = C .thread in let b = l .thread in leaf (omega arith) none
-  right Pc.N1 i l = let a = saw l in pick-case (K Pc.N1) (eqb (i .untaken) 0) _ _ (λ _. leaf (omega arith) none) (λ e. let n = taken l e in leaf (omega arith) same)
-  right Pc.N2 i l = let a = saw l in let k = C .know Pc.N2 (l .place) in pick-all (K Pc.N2) (eqb (i .v) (r .next)) _ _ (pick-all (K Pc.N2) (i .flag) _ _ (leaf (omega arith) same) (leaf (omega arith) same)) (leaf (omega arith) same)
-  right Pc.N3 i l = let k = C .know Pc.N3 (l .place) in let a = C .thread in let b = l .thread in leaf (omega arith) none
-  right Pc.D1 i l = leaf (omega arith) same
-  right Pc.D2 i l = let k = C .know Pc.D2 (l .place) in pick-case (K Pc.D2) (eqb (i .v) 0) _ _ (λ _. leaf (omega arith) same) (λ e. absurd (eqb-false (i .v) 0 e (omega arith)))
-  right Pc.P1 i l = let a = saw l in pick-all (K Pc.P1) (locked (i .v)) _ _ (leaf (omega arith) same) (leaf (omega arith) same)
-  right Pc.P2 i l = leaf (omega arith) same
-  right Pc.P3 i l = pick-all (K Pc.P3) (eqb (i .v) (r .next * 2)) _ _ (pick-all (K Pc.P3) (i .flag) _ _ (leaf (omega arith) same) (leaf (omega arith) none)) (leaf (omega arith) same)
-  right Pc.V0 i l = let a = saw l in let s = sourced Pc.V0 (l .place) in leaf (omega arith) same
-  right Pc.V1 i l = let s = sourced Pc.V1 (l .place) in leaf (omega arith) same
-  right Pc.V2 i l = let a = saw l in let s = sourced Pc.V2 (l .place) in pick-all (K Pc.V2) (eqb (i .v) (r .node)) _ _ (leaf (omega arith) none) (leaf (omega arith) same)
-  right Pc.V3 i l = let s = sourced Pc.V3 (l .place) in pick-all (K Pc.V3) (eqb (r .operation) 3) _ _ (leaf (omega arith) same) (leaf (omega arith) none)
-  right Pc.Reset i l = leaf (omega arith) none
-  right Pc.Raw i l = leaf (omega arith) none
-  right Pc.Swap i l = pick-all (K Pc.Swap) (eqb (i .w) 2) _ _ (leaf (omega arith) none) (pick-case (K Pc.Swap) (eqb (r .node) 0) _ _ (λ _. leaf (omega arith) none) (λ e. let n = eqb-false (r .node) 0 e in pick-all (K Pc.Swap) (eqb (i .w) 0) _ _ (leaf (omega arith) none) (leaf (omega arith) none)))
-  right Pc.T1 i l = let a = saw l in leaf (omega arith) same
-  right Pc.T2 i l = let a = saw l in let k = C .shape Pc.T2 (l .place) .lone in pick-all (K Pc.T2) (eqb (i .v) (r .seen)) _ _ (pick-all (K Pc.T2) (i .flag) _ _ (leaf (omega arith) same) (leaf (omega arith) same)) (leaf (omega arith) same)
-  right Pc.T3 i l = leaf (omega arith) same
-  right Pc.K1 i l = leaf (omega arith) same
-  right Pc.K2 i l = pick-all (K Pc.K2) (over g (r .count) (i .x)) _ _ (leaf (omega arith) same) (row (omega arith) (all-checked (Fit g) g _ (fit (omega arith) same) (fit (omega arith) same) (fit (omega arith) same) (fit (omega arith) same)))
-  right Pc.K3 i l = pick-all (K Pc.K3) (eqb (i .x) (r .count)) _ _ (pick-all (K Pc.K3) (i .flag) _ _ (leaf (omega arith) same) (leaf (omega arith) same)) (leaf (omega arith) same)
-  right Pc.K4 i l = row (omega arith) (all-checked (Fit g) g _ (fit (omega arith) same) (fit (omega arith) same) (fit (omega arith) same) (fit (omega arith) same))
-  right Pc.E1 i l = pick-all (K Pc.E1) ((g .due) (i .clock) (i .x)) _ _ (leaf (omega arith) same) (leaf (omega arith) none)
-  right Pc.E2 i l = pick-all (K Pc.E2) (eqb (i .x) (r .due)) _ _ (leaf (omega arith) same) (leaf (omega arith) none)
-  right Pc.E3 i l = pick-all (K Pc.E3) (eqb (i .x) 0) _ _ (leaf (omega arith) none) (leaf (omega arith) same)
-  right Pc.B1 i l = leaf (omega arith) same
-  right Pc.Steal i l =
-      let a = saw l in let w = stole (i .v) a in
-      pick-case (K Pc.Steal) (eqb (shardIn r + 1) (g .shards)) _ _
-      (λ _. pick-all (K Pc.Steal) (eqb (stolenFrom (stealing (i .v) r .stolen) 0 (g .shards)) (g .shards)) _ _ (row (omega arith) (all-passed (Fit g) g _ (fit (omega arith) w) (fit (omega arith) w))) (leaf (omega arith) w))
-      (λ e. let n = eqb-false (shardIn r + 1) (g .shards) e in let d = onward r z in leaf (omega arith) w)
-  right Pc.H1 i l = let a = saw l in pick-all (K Pc.H1) (eqb (i .v) 0) _ _ (row (omega arith) (fit-from 0 r (omega arith) z)) (leaf (omega arith) same)
-  right Pc.H2 i l = let a = saws l in pick-all (K Pc.H2) (eqb (i .w) 0) _ _ (row (omega arith) (fit-from 0 r (omega arith) z)) (leaf (omega arith) same)
-  right Pc.Examine i l =
-      let a = saw l in let w = stole (i .v) a in let n = l .reach in
-      pick-all (K Pc.Examine) (i .guarded) _ _
-      (row (omega arith) (fit-examined (i .v) _ (pick-case (λ (y : ℕ). Fit g (keeping (first r) y (stealing (i .v) r))) (eqb (r .unreclaimed) 0) _ _ (λ _. fit (omega arith) w) (λ e. let b = eqb-false (r .unreclaimed) 0 e in fit (omega arith) w))))
-      (row (omega arith) (fit-examined (i .v) _ (fit (omega arith) w)))
-  right Pc.Reclaim i l = let a = saw l in let n = l .reach in row (omega arith) (fit-reclaimed (i .v) _ (fit (omega arith) same))
-  right Pc.Empty i l = pick-all (K Pc.Empty) (eqb (i .v) 0) _ _ (pick-case (K Pc.Empty) (eqb (shardIn r + 1) (g .shards)) _ _ (λ _. row (omega arith) (all-emptied (Fit g) g _ (fit (omega arith) same) (fit (omega arith) same) (fit (omega arith) same))) (λ e. let n = eqb-false (shardIn r + 1) (g .shards) e in let d = onward r z in leaf (omega arith) same)) (row (omega arith) (all-emptied (Fit g) g _ (fit (omega arith) same) (fit (omega arith) same) (fit (omega arith) same)))
-  right Pc.Push1 i l = let a = saw l in leaf (omega arith) same
-  right Pc.Push2 i l = let a = saw l in let k = C .shape Pc.Push2 (l .place) .keep in pick-all (K Pc.Push2) (eqb (i .v) (r .seen)) _ _ (pick-all (K Pc.Push2) (i .flag) _ _ (leaf (omega arith) same) (row (omega arith) (all-passed (Fit g) g _ (fit (omega arith) same) (fit (omega arith) same)))) (leaf (omega arith) same)
-  right Pc.C1 i l = leaf (omega arith) same
-  right Pc.C3 i l = pick-all (K Pc.C3) (eqb (r .operation) 11) _ _ (leaf (omega arith) same) (leaf (omega arith) none)
-  right Pc.Wait i l = pick-all (K Pc.Wait) (eqb (i .x) 0) _ _ (leaf (omega arith) none) (leaf (omega arith) same)
-  right Pc.S1 i l = let a = saw l in pick-all (K Pc.S1) (eqb (i .v) 0) _ _ (row (omega arith) (fit-shut r z)) (leaf (omega arith) same)
-  right Pc.S2 i l = let a = saw l in let n = l .reach in row (omega arith) (pick-all (Fit g) (eqb (i .v) 0) _ _ (fit-shut _ (fit (omega arith) same)) (fit (omega arith) same))
-  right Pc.S3 i l = leaf (omega arith) none
-  right Pc.Unknown i l = absurd (let a = z .words .place in let b = l .place in omega arith)
+  right p i l =
+      let w = z .words in
+      let place : ltb (code Pc.S3) (r .place) ≡ false = le-ltb (code Pc.S3) (r .place) (z .words .place) in
+      let one : 1 ≤ 2 = omega arith in
+      let both : 2 ≤ 2 = omega arith in
+      let free : 1 ≤ threads + 1 = omega arith in
+      let mine : i .thread + 2 ≤ threads + 1 = (let a = C .thread in let b = l .thread in omega arith) in
+      let lock : withLock (r .rec * 2) ≤ 2 * records + 1 = (let w = with-lock (r .rec) in omega arith) in
+      let given : r .rec * 2 ≤ 2 * records + 1 = omega arith in
+      let back : r .next * 2 ≤ 2 * records + 1 = omega arith in
+      every (λ (p : Pc). Sees v t p r i → i .v ≤ limit (named (accesses p r)) → i .w ≤ limit (beside p r (i .untaken)) → InTable (named (accesses p r)) → Knows v t r (hold p) → ShapeOf g (stage p) r → uses (code p) ≤ r .source → At K p (does g p r i))
+      (search (two, either-case, leaf, tt, kIdle i, kUnknown i, kD2 i, taken i, taken-in i, record-in, put-in, lone-in, tail-in, next-shard, kept, z, w .operation, w .rec, w .next, w .source, w .sourced, w .node, w .seen, w .shard, w .lone, w .reclaimable, w .unreclaimed, w .tail, w .tailed, w .done, z .stolen, below-idle, stole, least, wraps, half, pick-all (Fit g), all-passed (Fit g) g, all-checked (Fit g) g, all-emptied (Fit g) g, fit-from, fit-examined, fit-reclaimed, fit-shut, words) depth 16 fits 8000)
+      p l (saw l) (saws l) (l .reach) (C .know p (l .place)) (C .shape p (l .place)) (subst (λ (n : ℕ). uses n ≤ r .source) (l .place) (z .words .sourced)) .holds
