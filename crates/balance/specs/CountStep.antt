@@ -29,7 +29,7 @@ use Rattle.counts.specs.CountLaws.{over-plain}
 use Rattle.lists.specs.Occ.{eq01, eq01-same, eq01-other, eq01-le, sum, sum-set}
 use Rattle.view.specs.View.{View, InTable, named, get, applies, enters}
 use Rattle.view.specs.Ranges.{limit}
-use Rattle.view.specs.Every.{pc-is, every, every-start, two, At, thus, either, pick-all, pick-case}
+use Rattle.view.specs.Every.{pc-is, every, every-start, two, At, thus, thence, either, pick-all, pick-case}
 use Rattle.view.specs.Long.{Long}
 use Rattle.view.specs.Rest.{all-passed, all-shut}
 use Rattle.view.specs.Turn.{rowIn, Look}
@@ -84,8 +84,8 @@ module _ (g : Settings) (v : View) (I : CountIn g v) (Z : ZoneIn v) (lv : Long v
   stays {p} {x} a b c = record { counted = Balance.keeps g mark st count n ticks rows I t ht hk x (rw (a, b) refl) (λ o. inr (rw (a, c) o)) }
 
   -- a step that leaves the counters, the mark and the states as they are
-  leaf : {p : Pc} {e : Effect} → applies t (named (accesses p r)) e v .heads .mark ≡ mark → applies t (named (accesses p r)) e v .nodes .state ≡ st → applies t (named (accesses p r)) e v .counters .count ≡ count → applies t (named (accesses p r)) e v .counters .recordCount ≡ n → applies t (named (accesses p r)) e v .counters .ticks ≡ plus ticks 1 → applies t (named (accesses p r)) e v .rows ≡ set rows t (e .row) → Seat p (e .row) → At K p e
-  leaf a b c d f h k = thus (rw (a, b, c, d, f, h) (k .counted))
+  leaf : {p : Pc} {e : Effect} → CountAt g mark st count n (plus ticks 1) (set rows t (e .row)) ≡ K p e → Seat p (e .row) → At K p e
+  leaf q k = thence q (k .counted)
 
   open′ : (p : Pc) → r .place ≡ code p → (Shut (side p) → ⊥) → mark ≡ 0
   open′ p e f = mark-open g v Z t ht p e f

@@ -24,7 +24,7 @@ use Rattle.rules.specs.declared.Effect.{Effect}
 use Rattle.rules.specs.declared.Named.the-variants as cell
 use Rattle.lists.specs.Occ.{sum, sum-set}
 use Rattle.view.specs.View.{View, named, applies, enters}
-use Rattle.view.specs.Every.{pc-is, every, every-start, two, At, thus, either, pick-all, pick-case}
+use Rattle.view.specs.Every.{pc-is, every, every-start, two, At, thus, thence, either, pick-all, pick-case}
 use Rattle.view.specs.Rest.{all-passed, all-checked, all-emptied, all-from, all-examined, all-reclaimed, all-shut}
 use Rattle.view.specs.Turn.{rowIn, Look}
 use Rattle.balance.specs.Balance.{Owe, owe, M}
@@ -129,8 +129,8 @@ module _ (g : Settings) (v : View) (I : SwingIn v) (t : ℕ) (ht : t < length (v
     stays : (x : Row) → x .place ≡ r .place → x .rcount ≡ r .rcount → Taken x
     stays x a b = record { le = rw (a, b) (omega arith) }
 
-    leaf : {p : Pc} {e : Effect} → applies t (named (accesses p r)) e v .counters .count ≡ c → applies t (named (accesses p r)) e v .counters .ticks ≡ plus (v .counters .ticks) 1 → applies t (named (accesses p r)) e v .rows ≡ set (v .rows) t (e .row) → Taken (e .row) → At K p e
-    leaf {p} {e} a b d h = thus (rw (a, b, d) (sit c (e .row) (let q = h .le in omega arith)))
+    leaf : {p : Pc} {e : Effect} → SwingAt (plus (v .counters .ticks) 1) c (set (v .rows) t (e .row)) ≡ K p e → Taken (e .row) → At K p e
+    leaf {p} {e} q h = thence q (sit c (e .row) (let a = h .le in omega arith))
 
     -- ---- the places that move the count, or reclaim
     kT3 : (i : Seen) → Look g v t Pc.T3 r i → At K Pc.T3 (does g Pc.T3 r i)

@@ -26,7 +26,7 @@ use Rattle.rules.specs.declared.Named.the-variants as cell
 use Rattle.lists.specs.Occ.{sum, sum-set, sum-at}
 use Rattle.lists.specs.Each.{each-set}
 use Rattle.view.specs.View.{View, named, applies, enters}
-use Rattle.view.specs.Every.{pc-is, classed, every, every-start, two, At, either, pick-all, pick-case}
+use Rattle.view.specs.Every.{pc-is, classed, every, every-start, two, At, thus, thence, either, pick-all, pick-case}
 use Rattle.view.specs.Rest.{all-from, all-examined, all-reclaimed, all-shut}
 use Rattle.view.specs.Turn.{rowIn, Look}
 use Rattle.view.specs.Begin.{Admitted}
@@ -116,8 +116,8 @@ module _ (g : Settings) (v : View) (I : TallyIn v) (hl : length (v .rows) ≡ th
   goes : {k : ℕ} (x : Row) → Ok k r → Ok k x → TallyAt n (set (v .rows) t x)
   goes x a b = puts n x (let c = a .in′ in let d = b .in′ in omega arith) (b .done)
 
-  leaf : {p : Pc} {e : Effect} → applies t (named (accesses p r)) e v .counters .bulkReclaims ≡ n → applies t (named (accesses p r)) e v .rows ≡ set (v .rows) t (e .row) → Ok (insideOf (bulk p) (r .done)) r → Ok (insideOf (bulk p) (r .done)) (e .row) → At K p e
-  leaf {p} {e} a b h k = record { holds = rw (a, b) (goes (e .row) h k) }
+  leaf : {p : Pc} {e : Effect} → TallyAt n (set (v .rows) t (e .row)) ≡ K p e → Ok (insideOf (bulk p) (r .done)) r → Ok (insideOf (bulk p) (r .done)) (e .row) → At K p e
+  leaf {p} {e} q h k = thence q (goes (e .row) h k)
 
   stays : {k : ℕ} {x : Row} → x .place ≡ r .place → x .done ≡ r .done → Ok k r → Ok k x
   stays {k} {x} a b h = ok (ap (λ (m : ℕ). insideOf (bulk (pcOf m)) (x .done)) a ∙ ap (insideOf (bulk (pcOf (r .place)))) b ∙ h .in′) (rw (a, b) (h .done))
@@ -145,10 +145,10 @@ module _ (g : Settings) (v : View) (I : TallyIn v) (hl : length (v .rows) ≡ th
   kC1 h = ok (let z = eqb-false (r .done) 0 h in omega arith) tt
 
   kB1 : (i : Seen) → Look g v t Pc.B1 r i → Ok 0 r → At K Pc.B1 (does g Pc.B1 r i)
-  kB1 i l o = record { holds = subst (λ (y : ℕ). TallyAt (plus y 1) (set (v .rows) t (goTo Pc.Steal (inShard 0 r)))) (sym (l .x)) (puts (plus n 1) (goTo Pc.Steal (inShard 0 r)) (let a = few in let b = o .in′ in omega arith) tt) }
+  kB1 i l o = thus (subst (λ (y : ℕ). TallyAt (plus y 1) (set (v .rows) t (goTo Pc.Steal (inShard 0 r)))) (sym (l .x)) (puts (plus n 1) (goTo Pc.Steal (inShard 0 r)) (let a = few in let b = o .in′ in omega arith) tt))
 
   kC3 : (i : Seen) → Look g v t Pc.C3 r i → Ok 1 r → At K Pc.C3 (does g Pc.C3 r i)
-  kC3 i l o = either (eqb (r .operation) 11) _ _ (record { holds = gone (goTo Pc.Wait r) refl tt }) (record { holds = gone idle refl tt })
+  kC3 i l o = either (eqb (r .operation) 11) _ _ (λ _. thus (gone (goTo Pc.Wait r) refl tt)) (λ _. thus (gone idle refl tt))
     where
       gone : (x : Row) → inside x ≡ 0 → Done x → TallyAt (less (i .x) 1) (set (v .rows) t x)
       gone x e d = subst (λ (y : ℕ). TallyAt (less y 1) (set (v .rows) t x)) (sym (l .x)) (puts (less n 1) x (let a = few in let b = o .in′ in let c = I .tally in let s = sum-at inside (v .rows) t idle ht in omega arith) d)

@@ -25,7 +25,7 @@ use Rattle.lists.specs.Each.{each-set}
 use Rattle.view.specs.View.{View, named, applies, enters}
 use Rattle.view.specs.Rest.{all-passed, all-checked, all-emptied, all-from, all-examined, all-reclaimed, all-shut}
 use Rattle.view.specs.Turn.{rowIn, Look}
-use Rattle.view.specs.Every.{every, every-start, two, At, either, pick-all}
+use Rattle.view.specs.Every.{every, every-start, two, At, thence, either, pick-all}
 
 abbrev pub TotalAt : ℕ → List Row → Type 0
 TotalAt ticks rows = (u : ℕ) → u < length rows → getD rows u idle .total ≤ ticks
@@ -67,8 +67,8 @@ module _ (g : Settings) (v : View) (I : TotalIn v) (t : ℕ) (ht : t < length (v
     more : (x : Row) → x .total ≡ plus (r .total) 1 → Tot x
     more x h = record { le = omega arith }
 
-    leaf : {p : Pc} {e : Effect} → applies t (named (accesses p r)) e v .counters .ticks ≡ plus (v .counters .ticks) 1 → applies t (named (accesses p r)) e v .rows ≡ set (v .rows) t (e .row) → Tot (e .row) → At K p e
-    leaf {p} {e} a b h = record { holds = rw (a, b) (sit (e .row) (h .le)) }
+    leaf : {p : Pc} {e : Effect} → TotalAt (plus (v .counters .ticks) 1) (set (v .rows) t (e .row)) ≡ K p e → Tot (e .row) → At K p e
+    leaf {p} {e} q h = thence q (sit (e .row) (h .le))
 
     pub total-place : (p : Pc) (i : Seen) → K p (does g p r i)
     total-place p i = every (λ (p : Pc). At K p (does g p r i)) (search (two, either, leaf, pick-all Tot, all-passed Tot g, all-checked Tot g, all-emptied Tot g, all-from Tot g, all-examined Tot g, all-reclaimed Tot g, all-shut Tot g, kept, none, more) depth 16 fits 8000) p .holds

@@ -107,19 +107,6 @@ checks-own = every (λ (p : Pc). Checks (scan p) → hold p ≡ Hold.owns) (sear
     nobody : {h : Hold} → ⊥ → h ≡ Hold.owns
     nobody q = absurd q
 
--- what the layer speaks of, beside rows, guarded sets and claims
-record Parts : Type 0 where
-  pub mark : ℕ
-  pub state : List ℕ
-  pub sources : List ℕ
-  pub hazard : List ℕ
-  pub next : List ℕ
-  pub head : ℕ
-  pub holder : List ℕ
-
-abbrev parts : View → Parts
-parts v = record { mark = v .heads .mark; state = v .nodes .state; sources = v .sources; hazard = v .records .hazard; next = v .records .next; head = v .heads .recordHead; holder = v .records .holder }
-
 module _ (g : Settings) (v : View) (ls : List (List ℕ)) (H : HeapIn g v ls) (R : RecordsIn v) (Z : ZoneIn v) (cl : List ℕ) (I : ClaimsIn v cl ls) (lv : Long v) (t : ℕ) (ht : t < length (v .rows)) (gw : length (getD (v .guards) t []) ≡ words) where
   abbrev r : Row
   r = rowIn v t
@@ -700,8 +687,8 @@ module _ (g : Settings) (v : View) (ls : List (List ℕ)) (H : HeapIn g v ls) (R
   stays : {p : Pc} {x : Row} → r .place ≡ code p → scan p ≡ Scan.before → x .place ≡ r .place → Sit p x
   stays {p} {x} e q w = let z : scan (pcOf (x .place)) ≡ Scan.before = ap (λ (n : ℕ). scan (pcOf n)) w ∙ ap scan (pc-is p e) ∙ q in record { val = rw z tt; safe = λ ls′. rw z tt }
 
-  leaf : (i : Seen) {p : Pc} {e : Effect} → r .place ≡ code p → eqb (code p) (code Pc.D1) ≡ false → ((n : ℕ) → gains p r i n ≡ 0) → parts (applies t (named (accesses p r)) e v) ≡ parts v → applies t (named (accesses p r)) e v .guards ≡ set gs t (guarded (getD gs t []) guards.Keep) → applies t (named (accesses p r)) e v .rows ≡ set rows t (e .row) → marks p r e cl ≡ cl → Sit p (e .row) → At (λ (p : Pc) (e : Effect). K p i e) p e
-  leaf i {p} {e} h d z a b c m k = thus λ N. subst (λ (q : Parts). ClaimsAt (q .mark) (q .state) (q .sources) (q .hazard) (q .next) (q .head) (q .holder) (applies t (named (accesses p r)) e v .guards) (applies t (named (accesses p r)) e v .rows) (marks p r e cl) (N .lists)) (sym a) (rw (b, c, m) (calm p h (eqb-false (code p) (code Pc.D1) d) i N z (e .row) (k .val) (k .safe (N .lists))))
+  leaf : (i : Seen) {p : Pc} {e : Effect} → r .place ≡ code p → eqb (code p) (code Pc.D1) ≡ false → ((n : ℕ) → gains p r i n ≡ 0) → ClaimsAt mark st src hz next head ho (set gs t (guarded (getD gs t []) guards.Keep)) (set rows t (e .row)) cl ≡ ClaimsIn (applies t (named (accesses p r)) e v) (marks p r e cl) → Sit p (e .row) → At (λ (p : Pc) (e : Effect). K p i e) p e
+  leaf i {p} {e} h d z q k = thus λ N. subst (λ (X : List (List ℕ) → Type 0). X (N .lists)) q (calm p h (eqb-false (code p) (code Pc.D1) d) i N z (e .row) (k .val) (k .safe (N .lists)))
 
   pub claim-place : (p : Pc) (i : Seen) → Look g v t p r i → K p i (does g p r i)
   claim-place p i l =

@@ -128,8 +128,8 @@ module _ (g : Settings) (A : Allowed g) (v : View) (ls : List (List ℕ)) (I : H
   checks : {p : Pc} (x : Row) → ShapeOf g Stage.clean x → hooks x ≡ hooks r → x .unreclaimed ≡ r .unreclaimed → x .tail ≡ r .tail → x .lone ≡ r .lone → Sat p (checked x)
   checks x s a b c d = let z = seat-checked g A x s in record { heap = goes (checked x) (z .hooks ∙ a) (z .unreclaimed ∙ b) (z .tail ∙ c) (z .lone ∙ d) (z .shape) }
 
-  leaf : (i : Seen) {p : Pc} {e : Effect} → applies t (named (accesses p r)) e v .nodes .next ≡ next → applies t (named (accesses p r)) e v .nodes .state ≡ st → applies t (named (accesses p r)) e v .heads .shards ≡ sh → applies t (named (accesses p r)) e v .rows ≡ set rows t (e .row) → Sat p (e .row) → At (λ (p : Pc) (e : Effect). K p i e) p e
-  leaf i {p} {e} a b c d k = thus (still (rw (a, b, c, d) (k .heap)))
+  leaf : (i : Seen) {p : Pc} {e : Effect} → HeapAt g next st sh (set rows t (e .row)) ls ≡ HeapIn g (applies t (named (accesses p r)) e v) ls → Sat p (e .row) → At (λ (p : Pc) (e : Effect). K p i e) p e
+  leaf i {p} {e} q k = thus (still (subst (λ (X : Type 0). X) q (k .heap)))
 
   -- ---- the lists of the slots that a move leaves
   un-two : (i j q : ℕ) (la lb : List ℕ) → q ≢ i → q ≢ j → (n : ℕ) → occ n (getD (set (set ls (slot t i) la) (slot t j) lb) (slot t q) []) ≡ occ n (getD ls (slot t q) [])

@@ -26,7 +26,7 @@ use Rattle.lists.specs.Heap.{waits}
 use Rattle.view.specs.Field.{IsId}
 use Rattle.view.specs.View.{View, InTable, named, get, applies}
 use Rattle.view.specs.Ranges.{limit}
-use Rattle.view.specs.Every.{every, two, At, pick-case}
+use Rattle.view.specs.Every.{every, two, At, pick-case, either}
 use Rattle.view.specs.Long.{Long}
 use Rattle.view.specs.Turn.{rowIn, Look}
 use Rattle.claims.specs.ClaimStep.{marks}
@@ -79,9 +79,6 @@ module _ (g : Settings) (v : View) (lv : Long v) (t : ℕ) (cl : List ℕ) where
   kFree : {p : Pc} (x : Row) → IsId nodes (r .reclaimable) → (r .reclaimable ≢ 0 → getD st (r .reclaimable) 0 ≡ 2) → marks p r (Places.reclaims (r .reclaimable) x) cl ≡ cl → applies t (named (accesses p r)) (Places.reclaims (r .reclaimable) x) v .nodes .state ≡ set st (r .reclaimable) 0 → At K p (Places.reclaims (r .reclaimable) x)
   kFree {p} x h w c s = let nz : r .reclaimable ≢ 0 = omega arith in record { holds = record { claim = sym c; waiting = λ n. rw s (freeing (r .reclaimable) (let a = lv .state in omega arith) (w nz) n (ℕ-discrete n (r .reclaimable))); retire = λ n. refl; frees = λ _. (refl, nz) } }
 
-  either-case : {p : Pc} (b : Bool) (x y : Effect) → (b ≡ true → At K p x) → (b ≡ false → At K p y) → At K p (pick b x y)
-  either-case {p} b x y h k = pick-case (At K p) b x y h k
-
   -- w: the head of the reclaim list waits
   pub told : (p : Pc) (i : Seen) → Look g v t p r i → (r .reclaimable ≢ 0 → getD st (r .reclaimable) 0 ≡ 2) → K p (does g p r i)
-  told p i l w = every (λ (p : Pc). Look g v t p r i → InTable (named (accesses p r)) → At K p (does g p r i)) (search (two, either-case, leaf, kSwap, kFree) depth 16 fits 8000) p l (l .reach) .holds
+  told p i l w = every (λ (p : Pc). Look g v t p r i → InTable (named (accesses p r)) → At K p (does g p r i)) (search (two, either, leaf, kSwap, kFree) depth 16 fits 8000) p l (l .reach) .holds

@@ -21,7 +21,7 @@ use Rattle.bits.specs.BitLaws.{with-lock}
 use Rattle.view.specs.Field.{IsId}
 use Rattle.view.specs.View.{View, InTable, named}
 use Rattle.view.specs.Ranges.{limit}
-use Rattle.view.specs.Every.{every, two, At, pick-all, pick-case}
+use Rattle.view.specs.Every.{every, two, At, pick-all, pick-case, either}
 use Rattle.view.specs.Rest.{all-passed, all-checked, all-emptied}
 use Rattle.view.specs.Turn.{beside, Sees, Fine}
 use Rattle.heap.specs.Stage
@@ -54,9 +54,6 @@ module _ (g : Settings) (v : View) (t : ℕ) (r : Row) (C : Known g v t r) where
 
   leaf : {p : Pc} {e : Effect} → e .put ≤ limit (named (accesses p r)) → e .to ≤ limit (e .also) → InTable (e .also) → eqb (e .number) 16 ≡ false → eqb (e .number) 29 ≡ false → Fit g (e .row) → At K p e
   leaf {p} {e} a b c m n f = record { holds = record { writes = record { put = a; to = b; also = c; fine = (eqb-false (e .number) 16 m, eqb-false (e .number) 29 n) }; row = f } }
-
-  either-case : {p : Pc} (b : Bool) (x y : Effect) → (b ≡ true → At K p x) → (b ≡ false → At K p y) → At K p (pick b x y)
-  either-case {p} b x y h k = pick-case (At K p) b x y h k
 
   -- a row, word by word
   words : {x : Row} → ltb (code Pc.S3) (x .place) ≡ false → x .operation ≤ 12 → x .rec ≤ records → x .next ≤ records → x .source ≤ sources → uses (x .place) ≤ x .source → x .node ≤ nodes → x .seen ≤ nodes → x .shard ≤ g .shards - 1 → x .lone ≤ nodes → x .reclaimable ≤ nodes → x .unreclaimed ≤ nodes → x .tail ≤ nodes → x .unreclaimed ≤ nodes * x .tail → x .done ≤ 2 → Below nodes (x .stolen) → Fit g x
@@ -156,5 +153,5 @@ module _ (g : Settings) (v : View) (t : ℕ) (r : Row) (C : Known g v t r) where
       let given : r .rec * 2 ≤ 2 * records + 1 = omega arith in
       let back : r .next * 2 ≤ 2 * records + 1 = omega arith in
       every (λ (p : Pc). Sees v t p r i → i .v ≤ limit (named (accesses p r)) → i .w ≤ limit (beside p r (i .untaken)) → InTable (named (accesses p r)) → Knows v t r (hold p) → ShapeOf g (stage p) r → uses (code p) ≤ r .source → At K p (does g p r i))
-      (search (two, either-case, leaf, tt, kIdle i, kUnknown i, kD2 i, taken i, taken-in i, record-in, put-in, lone-in, tail-in, next-shard, kept, z, w .operation, w .rec, w .next, w .source, w .sourced, w .node, w .seen, w .shard, w .lone, w .reclaimable, w .unreclaimed, w .tail, w .tailed, w .done, z .stolen, below-idle, stole, least, wraps, half, pick-all (Fit g), all-passed (Fit g) g, all-checked (Fit g) g, all-emptied (Fit g) g, fit-from, fit-examined, fit-reclaimed, fit-shut, words) depth 16 fits 8000)
+      (search (two, either, leaf, tt, kIdle i, kUnknown i, kD2 i, taken i, taken-in i, record-in, put-in, lone-in, tail-in, next-shard, kept, z, w .operation, w .rec, w .next, w .source, w .sourced, w .node, w .seen, w .shard, w .lone, w .reclaimable, w .unreclaimed, w .tail, w .tailed, w .done, z .stolen, below-idle, stole, least, wraps, half, pick-all (Fit g), all-passed (Fit g) g, all-checked (Fit g) g, all-emptied (Fit g) g, fit-from, fit-examined, fit-reclaimed, fit-shut, words) depth 16 fits 8000)
       p l (saw l) (saws l) (l .reach) (C .know p (l .place)) (C .shape p (l .place)) (subst (λ (n : ℕ). uses n ≤ r .source) (l .place) (z .words .sourced)) .holds

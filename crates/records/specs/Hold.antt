@@ -1,7 +1,7 @@
 -- Who holds each record: the available list behind its lock bit, the threads, and the owners; and the list of all records.
 use mathlib.Core.Path.{_≡_, refl, sym, ap, _∙_, subst}
 use mathlib.Core.Logic.{_≢_}
-use mathlib.Core.List.{List}
+use mathlib.Core.List.{List, [], _∷_}
 use Prim.Native.Nat.{ℕ, suc, _+_, _*_, _-_, _≤_, _<_, min}
 use lib.ListN.{length, getD}
 use Rattle.rules.specs.Sizes.{records}
@@ -13,6 +13,7 @@ use Rattle.lists.specs.Occ.{occ, eq01, sum}
 use Rattle.lists.specs.Chain.{Seg}
 use Rattle.view.specs.Field.{IsId}
 use Rattle.view.specs.View.{View}
+use Rattle.view.specs.Every.{classed}
 
 -- ---- classes of places: holds nothing; saw a record at the head; has the lock, and has read behind the head; holds a record
 -- whose `available_next` is anything, is 0, is what was seen at the head; holds a record that is not on the list yet; owns one
@@ -20,54 +21,10 @@ pub data Hold : Type 0 where
   free looks locks popped dirty clear aims pends owns : Hold
 
 abbrev pub hold : Pc → Hold
-hold Pc.Idle = free
-hold Pc.A1 = free
-hold Pc.A2 = looks
-hold Pc.A3 = locks
-hold Pc.A4 = popped
-hold Pc.A5 = dirty
-hold Pc.A6 = clear
-hold Pc.N1 = free
-hold Pc.N2 = pends
-hold Pc.N3 = clear
-hold Pc.D1 = clear
-hold Pc.D2 = clear
-hold Pc.P1 = dirty
-hold Pc.P2 = dirty
-hold Pc.P3 = aims
-hold Pc.V0 = owns
-hold Pc.V1 = owns
-hold Pc.V2 = owns
-hold Pc.V3 = owns
-hold Pc.Reset = owns
-hold Pc.Raw = owns
-hold Pc.Swap = free
-hold Pc.T1 = free
-hold Pc.T2 = free
-hold Pc.T3 = free
-hold Pc.K1 = free
-hold Pc.K2 = free
-hold Pc.K3 = free
-hold Pc.K4 = free
-hold Pc.E1 = free
-hold Pc.E2 = free
-hold Pc.E3 = free
-hold Pc.B1 = free
-hold Pc.Steal = free
-hold Pc.H1 = free
-hold Pc.H2 = free
-hold Pc.Examine = free
-hold Pc.Reclaim = free
-hold Pc.Empty = free
-hold Pc.Push1 = free
-hold Pc.Push2 = free
-hold Pc.C1 = free
-hold Pc.C3 = free
-hold Pc.Wait = free
-hold Pc.S1 = free
-hold Pc.S2 = free
-hold Pc.S3 = free
-hold Pc.Unknown = free
+hold =
+    classed free
+    ((Pc.A2, looks) ∷ (Pc.A3, locks) ∷ (Pc.A4, popped) ∷ (Pc.A5, dirty) ∷ (Pc.A6, clear) ∷ (Pc.N2, pends) ∷ (Pc.N3, clear) ∷ (Pc.D1, clear) ∷ (Pc.D2, clear) ∷ (Pc.P1, dirty) ∷ (Pc.P2, dirty) ∷ (Pc.P3, aims)
+    ∷ (Pc.V0, owns) ∷ (Pc.V1, owns) ∷ (Pc.V2, owns) ∷ (Pc.V3, owns) ∷ (Pc.Reset, owns) ∷ (Pc.Raw, owns) ∷ [])
 
 -- 1 where the thread holds record n
 abbrev pub hasOf : Hold → ℕ → ℕ → ℕ

@@ -31,7 +31,7 @@ use Rattle.lists.specs.Each.{each-set}
 use Rattle.view.specs.Field.{IsId, cleared}
 use Rattle.view.specs.Ranges.{limit}
 use Rattle.view.specs.View.{View, InTable, named, get, applies, enters}
-use Rattle.view.specs.Every.{every, two, At, pc-is, pick-all, pick-case}
+use Rattle.view.specs.Every.{every, two, At, pc-is, pick-all, pick-case, either, thus, thence}
 use Rattle.view.specs.Rest.{all-passed, all-checked, all-emptied, all-from, all-examined, all-reclaimed, all-shut}
 use Rattle.view.specs.Turn.{rowIn, Look, sees}
 use Rattle.view.specs.Begin.{Admitted, Owned}
@@ -68,20 +68,17 @@ module _ (g : Settings) (v : View) (I : RecordsIn v) (t : ℕ) (ht : t < length 
   abbrev Sit : Row → Type 0
   Sit x = RecordsAt ha head avn next ho (set rows t x)
 
-  is : (p : Pc) (x : Row) → x .place ≡ code p → pcOf (x .place) ≡ p
-  is p x e = pc-is p e
-
   has-is : (p : Pc) (x : Row) → x .place ≡ code p → (n : ℕ) → has n x ≡ hasOf (hold p) n (x .rec)
-  has-is p x e n = ap (λ (q : Pc). hasOf (hold q) n (x .rec)) (is p x e)
+  has-is p x e n = ap (λ (q : Pc). hasOf (hold q) n (x .rec)) (pc-is p e)
 
   off-is : (p : Pc) (x : Row) → x .place ≡ code p → (n : ℕ) → off n x ≡ offOf (hold p) n (x .rec)
-  off-is p x e n = ap (λ (q : Pc). offOf (hold q) n (x .rec)) (is p x e)
+  off-is p x e n = ap (λ (q : Pc). offOf (hold q) n (x .rec)) (pc-is p e)
 
   lock-is : (p : Pc) (x : Row) → x .place ≡ code p → lock x ≡ lockOf (hold p)
-  lock-is p x e = ap (λ (q : Pc). lockOf (hold q)) (is p x e)
+  lock-is p x e = ap (λ (q : Pc). lockOf (hold q)) (pc-is p e)
 
   know : (p : Pc) → r .place ≡ code p → KnowOf (hold p) ha avn ho t (r .rec) (r .next)
-  know p e = subst (λ (q : Pc). KnowOf (hold q) ha avn ho t (r .rec) (r .next)) (is p r e) (I .know t ht)
+  know p e = subst (λ (q : Pc). KnowOf (hold q) ha avn ho t (r .rec) (r .next)) (pc-is p e) (I .know t ht)
 
   -- as a type of its own, which `search` does not look into
   record Sits (x : Row) : Type 0 where
@@ -98,29 +95,23 @@ module _ (g : Settings) (v : View) (I : RecordsIn v) (t : ℕ) (ht : t < length 
   stays : Sits r
   stays = record { sit = RecordMoves.quiet ha head avn next ho rows I t ht r (λ n. refl) refl (λ n. refl) (I .know t ht) }
 
-  kept : {p : Pc} {e : Effect} → K p e → At K p e
-  kept h = record { holds = h }
-
   leaf : {p : Pc} {e : Effect} → Sit (e .row) ≡ K p e → Sits (e .row) → At K p e
-  leaf q h = kept (subst (λ (X : Type 0). X) q (h .sit))
-
-  either-case : {p : Pc} (b : Bool) (x y : Effect) → (b ≡ true → At K p x) → (b ≡ false → At K p y) → At K p (pick b x y)
-  either-case {p} b x y h k = pick-case (At K p) b x y h k
+  leaf q h = thence q (h .sit)
 
   -- ---- acquire
   kA2 : (i : Seen) → Look g v t Pc.A2 r i → eqb (i .v) (r .rec * 2) ≡ true → At K Pc.A2 (stores (withLock (r .rec * 2)) (becomes (goTo Pc.A3 r)))
   kA2 i l e =
-      kept (subst (λ (x : ℕ). RecordsAt x head avn next ho (set rows t (goTo Pc.A3 r))) (sym (with-lock (r .rec)))
+      thus (subst (λ (x : ℕ). RecordsAt x head avn next ho (set rows t (goTo Pc.A3 r))) (sym (with-lock (r .rec)))
       (RecordMoves.take-lock ha head avn next ho rows I t ht (r .rec) (goTo Pc.A3 r) (sym (sees l tt refl .0) ∙ eqb-true (i .v) (r .rec * 2) e) (know Pc.A2 (l .place)) (λ n. sym (has-is Pc.A2 r (l .place) n)) (lock-is Pc.A2 r (l .place)) refl (λ n. sym (off-is Pc.A2 r (l .place) n)) (omega arith, know Pc.A2 (l .place))))
 
   popped : (i : Seen) → Look g v t Pc.A3 r i → KnowOf Hold.locks ha avn ho t (r .rec) (r .next) → KnowOf Hold.popped ha avn ho t (r .rec) (i .v)
   popped i l k = (k .0, k .1, sym (sees l tt refl .0))
 
   kA4 : (i : Seen) → Look g v t Pc.A4 r i → At K Pc.A4 (does g Pc.A4 r i)
-  kA4 i l = let k = know Pc.A4 (l .place) in kept (RecordMoves.pop ha head avn next ho rows I t ht (r .rec) (r .next) (goTo Pc.A5 r) (k .0) (k .1) (k .2) (has-is Pc.A4 r (l .place)) (λ n. refl) (lock-is Pc.A4 r (l .place)) refl (λ n. sym (off-is Pc.A4 r (l .place) n)) (λ q. q))
+  kA4 i l = let k = know Pc.A4 (l .place) in thus (RecordMoves.pop ha head avn next ho rows I t ht (r .rec) (r .next) (goTo Pc.A5 r) (k .0) (k .1) (k .2) (has-is Pc.A4 r (l .place)) (λ n. refl) (lock-is Pc.A4 r (l .place)) refl (λ n. sym (off-is Pc.A4 r (l .place) n)) (λ q. q))
 
   kA5 : (i : Seen) → Look g v t Pc.A5 r i → At K Pc.A5 (does g Pc.A5 r i)
-  kA5 i l = let k = know Pc.A5 (l .place) in kept (RecordMoves.relink ha head avn next ho rows I t ht (r .rec) 0 (goTo Pc.A6 r) k (has-is Pc.A5 r (l .place)) (λ n. refl) (sym (lock-is Pc.A5 r (l .place))) (λ n. sym (off-is Pc.A5 r (l .place) n)) (getD-set-same avn (r .rec) 0 0 (let a = I .avnLong in let b = k .1 in omega arith), k))
+  kA5 i l = let k = know Pc.A5 (l .place) in thus (RecordMoves.relink ha head avn next ho rows I t ht (r .rec) 0 (goTo Pc.A6 r) k (has-is Pc.A5 r (l .place)) (λ n. refl) (sym (lock-is Pc.A5 r (l .place))) (λ n. sym (off-is Pc.A5 r (l .place) n)) (getD-set-same avn (r .rec) 0 0 (let a = I .avnLong in let b = k .1 in omega arith), k))
 
   -- A6, N3: the held record becomes the thread's
   owning : {p : Pc} {e : Effect} (u : ℕ) → u ≡ t → hold (pcOf (r .place)) ≡ Hold.clear → KnowOf Hold.clear ha avn ho t (r .rec) (r .next) → RecordsAt ha head avn next (set ho (r .rec) (u + 2)) (set rows t idle) ≡ K p e → At K p e
@@ -128,13 +119,13 @@ module _ (g : Settings) (v : View) (I : RecordsIn v) (t : ℕ) (ht : t < length 
       let h1 : (n : ℕ) → has n r ≡ eq01 n (r .rec) = λ n. ap (λ (h : Hold). hasOf h n (r .rec)) q in
       let o1 : (n : ℕ) → off n r ≡ 0 = λ n. ap (λ (h : Hold). offOf h n (r .rec)) q in
       let w : getD ho (r .rec) 0 ≡ 1 = RecordMoves.held-one ha head avn next ho rows I t ht (r .rec) (h1 (r .rec) ∙ eq01-same (r .rec)) in
-      kept (subst (λ (X : Type 0). X) f (RecordMoves.rehold ha head avn next ho rows I t ht (r .rec) (u + 2) idle (let a = I .hoLong in let b = k .1 .1 in omega arith) (λ _. k .0)
+      thus (subst (λ (X : Type 0). X) f (RecordMoves.rehold ha head avn next ho rows I t ht (r .rec) (u + 2) idle (let a = I .hoLong in let b = k .1 .1 in omega arith) (λ _. k .0)
       (let a = h1 (r .rec) in let b = eq01-same (r .rec) in omega arith) (let a = o1 (r .rec) in omega arith)
       (λ n ne. let a = h1 n in let b = eq01-other n (r .rec) ne in omega arith) (λ n ne. let a = o1 n in omega arith) (ap lockOf (sym q)) (λ u ne. omega arith) tt))
 
   kN1 : (i : Seen) → Look g v t Pc.N1 r i → eqb (i .untaken) 0 ≡ false → At K Pc.N1 (also (cell.Holder (i .untaken)) 1 (becomes (goTo Pc.N2 (Rows.withRec (i .untaken) (Rows.withNext (i .v) r)))))
   kN1 i l q0 =
-      kept (RecordMoves.rehold ha head avn next ho rows I t ht u 1 x (let a = I .hoLong in let b = id .1 in omega arith) (λ z. absurd (z refl))
+      thus (RecordMoves.rehold ha head avn next ho rows I t ht u 1 x (let a = I .hoLong in let b = id .1 in omega arith) (λ z. absurd (z refl))
       (let z = is0 in let a = h0 u in let b = eq01-same u in omega arith) (let z = is0 in let a = o0 u in let b = eq01-same u in omega arith)
       (λ n q. let a = h0 n in let b = eq01-other n u q in omega arith) (λ n q. let a = o0 n in let b = eq01-other n u q in omega arith) (sym (lock-is Pc.N1 r (l .place))) (λ w q. let z = is0 in omega arith) (I .apart u (let z = is0 in omega arith), id))
     where
@@ -163,21 +154,21 @@ module _ (g : Settings) (v : View) (I : RecordsIn v) (t : ℕ) (ht : t < length 
   kN2 : (i : Seen) → Look g v t Pc.N2 r i → eqb (i .v) (r .next) ≡ true → At K Pc.N2 (stores (r .rec) (also (cell.RecordNext (r .rec)) (r .next) (becomes (goTo Pc.N3 r))))
   kN2 i l e =
       let k = know Pc.N2 (l .place) in
-      kept (subst (λ (x : ℕ). RecordsAt ha (r .rec) avn (set next (r .rec) x) ho (set rows t (goTo Pc.N3 r))) (sym (sees l tt refl .0) ∙ eqb-true (i .v) (r .next) e)
+      thus (subst (λ (x : ℕ). RecordsAt ha (r .rec) avn (set next (r .rec) x) ho (set rows t (goTo Pc.N3 r))) (sym (sees l tt refl .0) ∙ eqb-true (i .v) (r .next) e)
       (RecordMoves.list ha head avn next ho rows I t ht (r .rec) (goTo Pc.N3 r) (k .1) (off-is Pc.N2 r (l .place)) (λ n. refl) (λ n. sym (has-is Pc.N2 r (l .place) n)) (sym (lock-is Pc.N2 r (l .place))) k))
 
   kN2lost : (i : Seen) → Look g v t Pc.N2 r i → At K Pc.N2 (also (cell.RecordNext (r .rec)) (r .next) (becomes (Rows.withNext (i .v) r)))
   kN2lost i l =
       let k = know Pc.N2 (l .place) in
       let x : Row = Rows.withNext (i .v) r in
-      kept (RecordMoves.unlist ha head avn next ho rows I t ht (r .rec) (r .next) x (off-is Pc.N2 r (l .place) (r .rec) ∙ eq01-same (r .rec)) (λ n. refl) (λ n. refl) refl (subst (λ (q : Pc). KnowOf (hold q) ha avn ho t (r .rec) (i .v)) (sym (is Pc.N2 r (l .place))) k))
+      thus (RecordMoves.unlist ha head avn next ho rows I t ht (r .rec) (r .next) x (off-is Pc.N2 r (l .place) (r .rec) ∙ eq01-same (r .rec)) (λ n. refl) (λ n. refl) refl (subst (λ (q : Pc). KnowOf (hold q) ha avn ho t (r .rec) (i .v)) (sym (pc-is Pc.N2 (l .place))) k))
 
   -- ---- release
   kP2 : (i : Seen) → Look g v t Pc.P2 r i → At K Pc.P2 (does g Pc.P2 r i)
-  kP2 i l = let k = know Pc.P2 (l .place) in kept (RecordMoves.relink ha head avn next ho rows I t ht (r .rec) (r .next) (goTo Pc.P3 r) k (has-is Pc.P2 r (l .place)) (λ n. refl) (sym (lock-is Pc.P2 r (l .place))) (λ n. sym (off-is Pc.P2 r (l .place) n)) (getD-set-same avn (r .rec) (r .next) 0 (let a = I .avnLong in let b = k .1 in omega arith), k))
+  kP2 i l = let k = know Pc.P2 (l .place) in thus (RecordMoves.relink ha head avn next ho rows I t ht (r .rec) (r .next) (goTo Pc.P3 r) k (has-is Pc.P2 r (l .place)) (λ n. refl) (sym (lock-is Pc.P2 r (l .place))) (λ n. sym (off-is Pc.P2 r (l .place) n)) (getD-set-same avn (r .rec) (r .next) 0 (let a = I .avnLong in let b = k .1 in omega arith), k))
 
   kP3 : (i : Seen) → Look g v t Pc.P3 r i → eqb (i .v) (r .next * 2) ≡ true → At K Pc.P3 (stores (r .rec * 2) (done 0))
-  kP3 i l e = let k = know Pc.P3 (l .place) in kept (RecordMoves.push ha head avn next ho rows I t ht (r .rec) idle (sym (sees l tt refl .0) ∙ eqb-true (i .v) (r .next * 2) e ∙ ap (λ (x : ℕ). x * 2) (sym (k .0))) (k .1) (has-is Pc.P3 r (l .place)) (λ n. refl) (lock-is Pc.P3 r (l .place)) refl (λ n. sym (off-is Pc.P3 r (l .place) n)) tt)
+  kP3 i l e = let k = know Pc.P3 (l .place) in thus (RecordMoves.push ha head avn next ho rows I t ht (r .rec) idle (sym (sees l tt refl .0) ∙ eqb-true (i .v) (r .next * 2) e ∙ ap (λ (x : ℕ). x * 2) (sym (k .0))) (k .1) (has-is Pc.P3 r (l .place)) (λ n. refl) (lock-is Pc.P3 r (l .place)) refl (λ n. sym (off-is Pc.P3 r (l .place) n)) tt)
 
   -- ---- shutdown's last step: no thread holds a record
   abbrev Free : Type 0
@@ -191,7 +182,7 @@ module _ (g : Settings) (v : View) (I : RecordsIn v) (t : ℕ) (ht : t < length 
       let b = none f h e z l (λ u hu. q (suc u) (omega arith)) in omega arith
 
   kS3 : (i : Seen) → Free → At K Pc.S3 (does g Pc.S3 r i)
-  kS3 i f = kept (record {
+  kS3 i f = thus (record {
     available = [];
     first = 0;
     bit = 0;
@@ -227,8 +218,8 @@ module _ (g : Settings) (v : View) (I : RecordsIn v) (t : ℕ) (ht : t < length 
   pub record-place : (p : Pc) (i : Seen) → Look g v t p r i → (p ≡ Pc.S3 → Free) → K p (does g p r i)
   record-place p i l z =
       every (λ (p : Pc). Look g v t p r i → i .thread ≡ t → (p ≡ Pc.S3 → Free) → hold (pcOf (r .place)) ≡ hold p → KnowOf (hold p) ha avn ho t (r .rec) (r .next) → At K p (does g p r i))
-      (search (two, either-case, leaf, stays, empty, goes, tt, seen-head, of-clear, of-aims, popped i, kA2 i, kA4 i, kA5 i, owning, kN1 i, kN2 i, kN2lost i, kP2 i, kP3 i, kS3 i, pick-all Sits, all-passed Sits g, all-checked Sits g, all-emptied Sits g, all-from Sits g, all-examined Sits g, all-reclaimed Sits g, all-shut Sits g) depth 16 fits 8000)
-      p l (l .thread) z (ap hold (is p r (l .place))) (know p (l .place)) .holds
+      (search (two, either, leaf, stays, empty, goes, tt, seen-head, of-clear, of-aims, popped i, kA2 i, kA4 i, kA5 i, owning, kN1 i, kN2 i, kN2lost i, kP2 i, kP3 i, kS3 i, pick-all Sits, all-passed Sits g, all-checked Sits g, all-emptied Sits g, all-from Sits g, all-examined Sits g, all-reclaimed Sits g, all-shut Sits g) depth 16 fits 8000)
+      p l (l .thread) z (ap hold (pc-is p (l .place))) (know p (l .place)) .holds
 
   -- 25 and 26
   pub record-ends : (n : ℕ) → (pcOf (r .place) ≡ Pc.N1) ⊎ (pcOf (r .place) ≡ Pc.Swap) → RecordsIn (applies t cell.Nothing (ends n) v)
@@ -241,7 +232,7 @@ module _ (g : Settings) (v : View) (I : RecordsIn v) (t : ℕ) (ht : t < length 
   -- ---- starts
   module _ (e : r .place ≡ code Pc.Idle) where
     idles : hold (pcOf (r .place)) ≡ Hold.free
-    idles = ap hold (is Pc.Idle r e)
+    idles = ap hold (pc-is Pc.Idle e)
 
     -- the start holds nothing, or goes on with a record that the thread owns
     nothing : (x : Row) → hold (pcOf (x .place)) ≡ Hold.free → Sit x

@@ -24,7 +24,7 @@ use Rattle.rules.specs.declared.Effect.{Effect}
 use Rattle.rules.specs.declared.Named.the-variants as cell
 use Rattle.lists.specs.Each.{each-set}
 use Rattle.view.specs.View.{View, named, applies, enters}
-use Rattle.view.specs.Every.{pc-is, classed, every, every-start, two, At, either, pick-all}
+use Rattle.view.specs.Every.{pc-is, classed, every, every-start, two, At, thus, thence, either, pick-all}
 use Rattle.view.specs.Rest.{all-passed, all-checked, all-emptied, all-from, all-examined, all-reclaimed, all-shut}
 use Rattle.view.specs.Turn.{rowIn, Look}
 use Rattle.view.specs.Begin.{Admitted}
@@ -114,11 +114,11 @@ module _ (g : Settings) (v : View) (I : ZoneIn v) (t : ℕ) (ht : t < length (v 
       go shutting a b (inl m) o = absurd (a (m .1 t ht))
       go shutting a b (inr m) o = inr (m .0, shut′ (m .1) o)
 
-  leaf : {p : Pc} {e : Effect} → r .place ≡ code p → applies t (named (accesses p r)) e v .heads .mark ≡ v .heads .mark → applies t (named (accesses p r)) e v .rows ≡ set (v .rows) t (e .row) → Onward (side p) (e .row) → At K p e
-  leaf {p} {e} h a b o = record { holds = rw (a, b) (onward p h (e .row) o) }
+  leaf : {p : Pc} {e : Effect} → Sit (e .row) ≡ K p e → r .place ≡ code p → Onward (side p) (e .row) → At K p e
+  leaf {p} {e} q h o = thence q (onward p h (e .row) o)
 
   kS3 : (i : Seen) → r .place ≡ code Pc.S3 → At K Pc.S3 (does g Pc.S3 r i)
-  kS3 i e = record { holds = inr (omega arith, each-set idle (λ u y. ShutRow y) (λ u y. ShutRow y) (v .rows) t idle ht (λ u hu ne q. q) tt (all-shut-rows Pc.S3 e (λ q. q) .1)) }
+  kS3 i e = thus (inr (omega arith, each-set idle (λ u y. ShutRow y) (λ u y. ShutRow y) (v .rows) t idle ht (λ u hu ne q. q) tt (all-shut-rows Pc.S3 e (λ q. q) .1)))
 
   here : (p : Pc) → r .place ≡ code p → Onward (side p) r
   here p e = go (side p) refl

@@ -117,8 +117,13 @@ pub record At (K : Pc → Effect → Type 0) (p : Pc) (e : Effect) : Type 0 wher
 pub thus : {K : Pc → Effect → Type 0} {p : Pc} {e : Effect} → K p e → At K p e
 thus k = record { holds = k }
 
-pub either : {K : Pc → Effect → Type 0} {p : Pc} (b : Bool) (x y : Effect) → At K p x → At K p y → At K p (pick b x y)
-either {K} {p} b x y h k = pick-all (At K p) b x y h k
+-- the same where the type is K p e once the place and the effect are known
+pub thence : {K : Pc → Effect → Type 0} {p : Pc} {e : Effect} {X : Type 0} → X ≡ K p e → X → At K p e
+thence q x = thus (subst (λ (Y : Type 0). Y) q x)
+
+-- each way of a test, knowing the test
+pub either : {K : Pc → Effect → Type 0} {p : Pc} (b : Bool) (x y : Effect) → (b ≡ true → At K p x) → (b ≡ false → At K p y) → At K p (pick b x y)
+either {K} {p} b x y h k = pick-case (At K p) b x y h k
 
 -- ---- every start
 abbrev pub Starts : (Operation → Type 0) → Type 0
