@@ -81,7 +81,11 @@ module _ (g : Settings) (v : View) (I : CountIn g v) (Z : ZoneIn v) (lv : Long v
   owing {p} {x} e no′ q = record { counted = goes p e no′ x q }
 
   stays : {p : Pc} {x : Row} → x .place ≡ r .place → x .rcount ≡ r .rcount → x .count ≡ r .count → Seat p x
-  stays {p} {x} a b c = record { counted = Balance.keeps g mark st count n ticks rows I t ht hk x (rw (a, b) refl) (λ o. inr (rw (a, c) o)) }
+  stays {p} {x} a b c =
+      record {
+        counted = Balance.keeps g mark st count n ticks rows I t ht hk x (ap (λ (m : ℕ). owesOf (owe (pcOf m)) (x .rcount)) a ∙ ap (owesOf (owe (pcOf (r .place)))) b)
+            (λ o. inr (subst (λ (m : ℕ). LooksOf (owe (pcOf m)) count (x .count)) (sym a) (subst (LooksOf (owe (pcOf (r .place))) count) (sym c) o)));
+      }
 
   -- a step that leaves the counters, the mark and the states as they are
   leaf : {p : Pc} {e : Effect} → CountAt g mark st count n (plus ticks 1) (set rows t (e .row)) ≡ K p e → Seat p (e .row) → At K p e

@@ -127,7 +127,7 @@ module _ (g : Settings) (v : View) (I : SwingIn v) (t : ℕ) (ht : t < length (v
     none x a = record { le = omega arith }
 
     stays : (x : Row) → x .place ≡ r .place → x .rcount ≡ r .rcount → Taken x
-    stays x a b = record { le = rw (a, b) (omega arith) }
+    stays x a b = record { le = let q : swing x ≡ swing r = ap (λ (m : ℕ). swingOf (owe (pcOf m)) (x .rcount)) a ∙ ap (swingOf (owe (pcOf (r .place)))) b in omega arith }
 
     leaf : {p : Pc} {e : Effect} → SwingAt (plus (v .counters .ticks) 1) c (set (v .rows) t (e .row)) ≡ K p e → Taken (e .row) → At K p e
     leaf {p} {e} q h = thence q (sit c (e .row) (let a = h .le in omega arith))

@@ -2,7 +2,7 @@
 use Prim.Native.Nat.{ℕ, zero, suc, _+_, _*_, _-_, _/_, _%_, _^_, _≤_, _<_, max}
 use mathlib.Core.Path.{_≡_, refl, sym, _∙_}
 use mathlib.Core.Logic.{_≢_}
-use mathlib.Core.Bool.{true, false}
+use mathlib.Core.Bool.{Bool, true, false}
 use mathlib.Core.List.{List}
 use lib.ListN.{length, getD, set, replicate, length-set, length-replicate, List·getD-eq-default}
 use lib.Seq.{getD-set-same, getD-set-other, set-out}
@@ -14,7 +14,7 @@ use native.Mathlib.Nat.{one-mul, mul-mod-left, div-self, div-eq-of-lt}
 use native.Mathlib.Decide.{decLt, ℕ-discrete}
 use native.Mathlib.Omega.{arith}
 use Rattle.rules.specs.Sizes.{Settings, base}
-use Rattle.rules.specs.Words.{locked, withLock, shardOf, bit, member, marked, isGuarded, guardedAlso, noneGuarded}
+use Rattle.rules.specs.Words.{locked, withLock, shardOf, isGuarded, guardedAlso, noneGuarded}
 
 -- ---- masks and shifts, as the code has them
 pub low6 : (n : ℕ) → bitAnd n 63 ≡ n % 64
@@ -27,6 +27,9 @@ pub shl-one : (b : ℕ) → b < 64 → 1 * 2 ^ b % 18446744073709551616 ≡ 2 ^ 
 shl-one b h = shl-exact 1 b 64 (lit< tt) (omega arith) ∙ one-mul (2 ^ b)
 
 -- ---- the bits of a word
+abbrev bit : ℕ → ℕ → ℕ
+bit x b = x / 2 ^ b % 2
+
 pow-bit : (b : ℕ) → bit (2 ^ b) b ≡ 1
 pow-bit b = rw (div-self (pow-pos b))
 
@@ -70,6 +73,12 @@ unfolding guardedAlso
 past-guarded g n h = rw (ne-eqb n 0 (λ e. omega arith)) (set-out g ((n - 1) / 64) _ (omega arith))
 
 -- ---- a node is put in
+abbrev member : List ℕ → ℕ → Bool
+member g n = eqb (bit (getD g ((n - 1) / 64) 0) ((n - 1) % 64)) 1
+
+abbrev marked : List ℕ → ℕ → List ℕ
+marked g n = set g ((n - 1) / 64) (bitOr (getD g ((n - 1) / 64) 0) (2 ^ ((n - 1) % 64)))
+
 is-member : (g : List ℕ) (n : ℕ) → n ≢ 0 → isGuarded g n ≡ member g n
 unfolding isGuarded
 is-member g n ne = rw (ne-eqb n 0 ne)

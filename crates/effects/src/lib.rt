@@ -1,7 +1,7 @@
 // The rules' words for effects, one struct each, so that a place returns one of them.
 ghost use mathlib.Core.Path.{_≡_};
 ghost use Rattle.rules.specs.Rows.{idle};
-ghost use Rattle.rules.specs.Places.{answers, becomes, stores, also, clearsGuards, guarding, reclaims, closes, closing, damaged};
+ghost use Rattle.rules.specs.Places.{answers, becomes, stores, also, clearsGuards, guarding, reclaims, closing, damaged};
 use rules::Effect;
 use rules::Guards;
 use rules::Named;
@@ -249,12 +249,7 @@ pub fn guarding(node: u32, row: Row) -> Effect
 pub fn closing(total: u64) -> Effect
     ensures { λ e. ⌜ e ≡ closing total ⌝ }
 {
-    closes(idle(), total)
-}
-
-fn closes(row: Row, total: u64) -> Effect
-    ensures { λ e. ⌜ e ≡ closes row total ⌝ }
-{
+    let row = idle();
     Effect {
         row: row,
         number: 2,

@@ -14,7 +14,7 @@ use Rattle.rules.specs.Words.{isGuarded}
 use Rattle.rules.specs.Rows.{first, rowFits, rowAt, stored32, stored64}
 use Rattle.rules.specs.Cells.{inRange, address, accessed}
 use Rattle.rules.specs.Places.{accessOf, followOf, effectOf}
-use Rattle.rules.specs.Step.{Shared, State, guarded, guardedAt, guardsGiven, fetched, seen, readBy, judge, judged, lookBy, lookOf, untakenFor, shared, state, Out, out, answer, refused, cellsGiven, given, takeBy, takeAt, takeOf, stepIn, stepOf, sizes}
+use Rattle.rules.specs.Step.{Shared, State, guarded, guardsOf, guardsGiven, fetched, seen, readBy, judge, judged, lookBy, lookOf, untakenFor, shared, state, Out, out, answer, refused, cellsGiven, given, takeBy, takeOf, stepIn, stepOf, sizes}
 use Rattle.rules.specs.declared.Row.{Row}
 use Rattle.rules.specs.declared.Cell.{Cell}
 use Rattle.rules.specs.declared.Seen.{Seen}
@@ -30,13 +30,12 @@ guards-part g p t m e =
     ap (λ (q : List ℕ). putMid (t * 64) (t * 64 + 64 - t * 64) g q) e
     ∙ ap (λ (k : ℕ). putMid (t * 64) k g (guarded (take k (drop (t * 64) g)) m)) (add-sub-cancel-left (t * 64) 64)
 
-pub guarded-part : (g : List ℕ) (t n : ℕ) (r : Bool) → r ≡ isGuarded (take (t * 64 + 64 - t * 64) (drop (t * 64) g)) n → r ≡ guardedAt g t n
-unfolding guardedAt
+pub guarded-part : (g : List ℕ) (t n : ℕ) (r : Bool) → r ≡ isGuarded (take (t * 64 + 64 - t * 64) (drop (t * 64) g)) n → r ≡ isGuarded (guardsOf g t) n
 guarded-part g t n r e = e ∙ ap (λ (k : ℕ). isGuarded (take k (drop (t * 64) g)) n) (add-sub-cancel-left (t * 64) 64)
 
-pub has-read : (s : Shared) (g : List ℕ) (t : ℕ) (f : Bool) (k : ℕ) (r : Row) (c l : Cell) (u x y n : ℕ) (on : Bool) (i : Seen) → i ≡ seen x y u on t f k → on ≡ guardedAt g t n → n ≡ first r → y ≡ fetched s l → x ≡ fetched s c → i ≡ readBy s g t f k r c l u
+pub has-read : (s : Shared) (g : List ℕ) (t : ℕ) (f : Bool) (k : ℕ) (r : Row) (c l : Cell) (u x y n : ℕ) (on : Bool) (i : Seen) → i ≡ seen x y u on t f k → on ≡ isGuarded (guardsOf g t) n → n ≡ first r → y ≡ fetched s l → x ≡ fetched s c → i ≡ readBy s g t f k r c l u
 unfolding readBy
-has-read s g t f k r c l u x y n on i p q z w v = p ∙ λ j. seen (v j) (w j) u ((q ∙ ap (guardedAt g t) z) j) t f k
+has-read s g t f k r c l u x y n on i p q z w v = p ∙ λ j. seen (v j) (w j) u ((q ∙ ap (isGuarded (guardsOf g t)) z) j) t f k
 
 pub has-judged : (r : Row) (fits : Bool) (c l a : Cell) (i : Seen) (e f : Effect) (w x y z : Bool) → f ≡ judge r w e → w ≡ both fits (both x (both y z)) → z ≡ inRange (a .class) 0 → y ≡ inRange (l .class) (i .y) → x ≡ inRange (c .class) (i .x) → a ≡ address (e .also) → f ≡ judged r fits c l i e
 unfolding judged
@@ -61,16 +60,19 @@ gave s t c e h k r q n a b g p1 p2 p3 p4 = λ i. state (p1 i) (p2 i) (p3 i) (p4 
 
 module _ (g : Settings) (s : State) (t : ℕ) (f : Bool) (k : ℕ) where
   module _ (r : Row) (e : Effect) (p : e ≡ lookOf g (s .cells) (s .rows32) (s .guards) t f k r) (q : r ≡ rowAt (s .rows32) (s .rows64) t) where
+    abbrev takeAt : Row → Out
+    takeAt x = takeBy s t (accessed (accessOf x)) (lookOf g (s .cells) (s .rows32) (s .guards) t f k x)
+
     pub take-29 : e .number ≡ 29 → refused 29 s ≡ takeOf g s t f k
     unfolding takeOf
-    take-29 h = is-yes (refused 29 s) (eqb (e .number) 29) _ (out (answer (e .number) (e .value)) (given s t (accessed (accessOf r)) e)) (eq-eqb _ _ h) refl ∙ ap (takeBy s t (accessed (accessOf r))) p ∙ ap (takeAt g s t f k) q
+    take-29 h = is-yes (refused 29 s) (eqb (e .number) 29) _ (out (answer (e .number) (e .value)) (given s t (accessed (accessOf r)) e)) (eq-eqb _ _ h) refl ∙ ap (takeBy s t (accessed (accessOf r))) p ∙ ap takeAt q
 
     pub take-goes : (c : Cell) (a : Access) (s′ : State) → c ≡ accessed a → a ≡ accessOf r → (e .number ≡ 29 → ⊥) → s′ ≡ given s t c e → out (answer (e .number) (e .value)) s′ ≡ takeOf g s t f k
     unfolding takeOf
     take-goes c a s′ u v h z =
         is-no (out (answer (e .number) (e .value)) s′) (eqb (e .number) 29) (refused 29 s) (out (answer (e .number) (e .value)) (given s t c e)) (ne-eqb _ _ h) (ap (out (answer (e .number) (e .value))) z)
         ∙ (λ i. takeBy s t ((u ∙ ap accessed v) i) (p i))
-        ∙ ap (takeAt g s t f k) q
+        ∙ ap takeAt q
 
   module _ (n m : ℕ) (p : n ≡ getD (s .cells .counters) 4 0) (q : m ≡ getD (s .rows32) (t * row32) 0) where
     abbrev by : ℕ → ℕ → Out

@@ -2,7 +2,8 @@
 ghost use mathlib.Core.Path.{_≡_};
 ghost use Prim.Native.Nat.{_+_, _*_, _≤_, _<_};
 ghost use lib.ListN.{length};
-ghost use Rattle.rules.specs.Step.{guarded, guardedAt, guardsGiven};
+ghost use Rattle.rules.specs.Step.{guarded, guardsOf, guardsGiven};
+ghost use Rattle.rules.specs.Words.{isGuarded};
 use rules::Guards;
 
 // The 64-bit words of a guarded set.
@@ -30,7 +31,7 @@ pub fn guards_given(guards: &mut [u64], t: u32, g: Guards)
 
 pub fn guarded_at(guards: &[u64], t: u32, n: u32) -> bool
     requires { ⌜ (t < 16) × (length (now guards) ≡ 1024) ⌝ }
-    ensures { λ r. ⌜ r ≡ guardedAt (now (guards .entry)) t n ⌝ }
+    ensures { λ r. ⌜ r ≡ isGuarded (guardsOf (now (guards .entry)) t) n ⌝ }
 {
     let a = t as usize * WORDS;
     let z = a + WORDS;

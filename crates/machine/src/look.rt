@@ -89,9 +89,12 @@ fn judged(r: Row, fits: bool, c: Cell, l: Cell, i: Seen, e: Effect) -> Effect
 {
     let also = e.also;
     let a = tables::address(also);
-    let here = tables::in_range(c.class, i.x);
-    let there = tables::in_range(l.class, i.y);
-    judge(r, all(fits, here, there, tables::in_range(a.class, 0)), e)
+    let of_a = a.class;
+    let of_c = c.class;
+    let of_l = l.class;
+    let here = tables::in_range(of_c, i.x);
+    let there = tables::in_range(of_l, i.y);
+    judge(r, all(fits, here, there, tables::in_range(of_a, 0)), e)
 }
 
 fn look_by(

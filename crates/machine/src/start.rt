@@ -3,7 +3,7 @@ ghost use mathlib.Core.Path.{_≡_};
 ghost use mathlib.Core.List.{List};
 ghost use Prim.Native.Nat.{ℕ};
 ghost use Rattle.rules.specs.Sizes.{base};
-ghost use Rattle.rules.specs.Step.{shared, state, out, sized};
+ghost use Rattle.rules.specs.Step.{shared, state, out};
 ghost use Rattle.rules.specs.Start.{entered, startIn, startOf, startBy, ofNull};
 use crate::step::sized;
 use rules::Answer;

@@ -3,7 +3,9 @@ ghost use mathlib.Core.Path.{_≡_};
 ghost use Prim.Native.Nat.{_<_};
 ghost use lib.ListN.{length};
 ghost use Rattle.rules.specs.Sizes.{base};
-ghost use Rattle.rules.specs.Step.{shared, state, out, given, takeOf, stepIn, stepOf, sized};
+ghost use Rattle.rules.specs.Step.{shared, state, out, given, takeOf, stepIn, stepOf};
+ghost use Rattle.base.specs.Pick.{both};
+ghost use lib.Dec.{eqb};
 use crate::guards::WORDS;
 use crate::guards::guards_given;
 use crate::look::look;
@@ -169,7 +171,7 @@ pub fn sized(
     rows64: usize,
     guards: usize,
 ) -> bool
-    ensures { λ b. ⌜ b ≡ sized heads counters records sources nodes rows32 rows64 guards ⌝ }
+    ensures { λ b. ⌜ b ≡ both (eqb heads 11) (both (eqb counters 5) (both (eqb records 4096) (both (eqb sources 64) (both (eqb nodes 8192) (both (eqb rows32 336) (both (eqb rows64 80) (eqb guards 1024))))))) ⌝ }
 {
     if heads == HEADS {
         if counters == COUNTERS {

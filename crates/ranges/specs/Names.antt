@@ -1,15 +1,16 @@
 -- The names that a step uses are cells': what the other layers know of a thread's ids, place by place.
-use Prim.Native.Nat.{ℕ, _≤_, _<_}
+use Prim.Native.Nat.{ℕ, _+_, _*_, _≤_, _<_}
 use mathlib.Core.Path.{_≡_, _∙_, subst}
 use mathlib.Core.Logic.{_≢_}
 use native.Mathlib.Omega.{arith}
 use lib.Dec.{eqb}
 use lib.ListN.{getD}
 use borrow.Author.Tests.{eqb-true, eqb-false}
-use Rattle.rules.specs.Sizes.{records, sources, threads, Settings}
+use Rattle.rules.specs.Sizes.{records, sources, nodes, threads, Settings}
 use Rattle.rules.specs.Pc
 use Rattle.rules.specs.Pc.{Pc, code}
-use Rattle.rules.specs.Cells.{most, aHolder, anAvailable}
+use Rattle.rules.specs.declared.Class.{Class}
+use Rattle.rules.specs.declared.Class.the-variants.{Anything, ARecord, ANode, AnAvailable, AState, AHolder, NoCell}
 use Rattle.rules.specs.Rows.{first, shardIn}
 use Rattle.rules.specs.Places.{accesses}
 use Rattle.rules.specs.declared.Row.{Row}
@@ -27,13 +28,20 @@ use Rattle.records.specs.Hold.{Hold, KnowOf, hold}
 use Rattle.ranges.specs.Range.{uses, Fit, Ranges}
 
 -- ---- contents
+abbrev pub InClass : Class → ℕ → Type 0
+InClass Anything x = x ≤ 18446744073709551615
+InClass ARecord x = x ≤ records
+InClass ANode x = x ≤ nodes
+InClass AnAvailable x = (x ≢ 1) × (x ≤ 2 * records + 1)
+InClass AState x = x ≤ 2
+InClass AHolder x = x ≤ threads + 1
+InClass NoCell x = ⊥
+
 -- what a cell holds is within the limit of its kind, by name and by class
 pub record Held (c : Named) (x : ℕ) : Type 0 where
   pub limit : x ≤ limit c
   pub word : x ≤ 18446744073709551615
-  pub class : plain c .class ≤ aHolder
-  pub most : x ≤ getD most (plain c .class) 0
-  pub apart : plain c .class ≡ anAvailable → x ≢ 1
+  pub range : InClass (plain c .class) x
 
 pub holds : (g : Settings) (v : View) → Ranges g v → v .heads .headAvailable ≢ 1 → (c : Named) → Held c (get c v)
 holds g v I ne cell.Nothing = omega arith

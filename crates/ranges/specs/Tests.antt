@@ -1,42 +1,56 @@
 -- What is in range passes the tests for 29: the test of a cell's content, and that of a row's words.
 use Prim.Native.Nat.{ℕ, suc, _+_, _*_, _≤_}
 use mathlib.Core.Path.{_≡_, refl}
-use mathlib.Core.Logic.{_≢_}
-use mathlib.Core.Bool.{Bool, true}
+use mathlib.Core.Bool.{true}
 use mathlib.Core.List.{List}
-use native.Mathlib.Omega.{arith}
-use lib.Dec.{eqb}
 use lib.ListN.{getD}
-use borrow.Author.Tests.{eqb-true, ne-eqb, le-ltb}
+use borrow.Author.Tests.{ne-eqb, le-ltb, le-leb}
 use Rattle.rules.specs.Sizes.{row32, Settings}
-use Rattle.rules.specs.Cells.{address, accessed, unread, noCell, anything, inRange, aHolder, anAvailable, most}
+use Rattle.rules.specs.Cells.{address, accessed, unread, inRange}
+use Rattle.rules.specs.declared.Class.{Class}
+use Rattle.rules.specs.declared.Class.the-variants.{Anything, ARecord, ANode, AnAvailable, AState, AHolder, NoCell}
 use Rattle.rules.specs.Rows.{rowAt, rowFits, rowMost, within}
-use Rattle.rules.specs.declared.Cell.{Cell}
 use Rattle.rules.specs.declared.Named.{Named}
 use Rattle.rules.specs.declared.Access.{Access}
 use Rattle.rules.specs.declared.Access.the-variants as by
 use Rattle.view.specs.View.{View, InTable, get, named}
 use Rattle.view.specs.Written.{plain, address-in}
-use Rattle.view.specs.Every.{pick-case}
 use Rattle.view.specs.Turn.{InRange}
 use Rattle.ranges.specs.Range.{Fit}
-use Rattle.ranges.specs.Names.{Held}
+use Rattle.ranges.specs.Names.{InClass, Held}
 
 -- ---- cells
-in-class : (class x : ℕ) → class ≤ aHolder → x ≤ getD most class 0 → (class ≡ anAvailable → x ≢ 1) → inRange class x ≡ true
+in-class : (k : Class) (x : ℕ) → InClass k x → inRange k x ≡ true
 unfolding inRange
-in-class class x a b d = rw (le-ltb aHolder class a, le-ltb (getD most class 0) x b) (pick-case (λ (q : Bool). q ≡ true) (eqb class anAvailable) _ _ (λ e. rw (ne-eqb x 1 (d (eqb-true class anAvailable e)))) (λ _. refl))
+in-class Anything x h = le-leb x _ h
+in-class ARecord x h = le-leb x _ h
+in-class ANode x h = le-leb x _ h
+in-class AnAvailable x h = rw (ne-eqb x 1 (h .0)) (le-leb x _ (h .1))
+in-class AState x h = le-leb x _ h
+in-class AHolder x h = le-leb x _ h
+in-class NoCell x h = absurd h
+
+-- 0 is in the range of a class that holds something
+null-in : (k : Class) (x : ℕ) → InClass k x → inRange k 0 ≡ true
+unfolding inRange
+null-in Anything x h = refl
+null-in ARecord x h = refl
+null-in ANode x h = refl
+null-in AnAvailable x h = refl
+null-in AState x h = refl
+null-in AHolder x h = refl
+null-in NoCell x h = absurd h
 
 module _ (v : View) (h : (c : Named) → Held c (get c v)) where
   loaded : (c : Named) → InTable c → inRange (address c .class) (get c v) ≡ true
-  loaded c k = let q = h c in rw (address-in c k) (in-class (plain c .class) (get c v) (q .class) (q .most) (q .apart))
+  loaded c k = rw (address-in c k) (in-class (plain c .class) (get c v) (h c .range))
 
   -- a store takes any word
   stored : (c : Named) → InTable c → inRange (unread (address c) .class) (get c v) ≡ true
-  stored c k = let q = h c in rw (address-in c k) (pick-case (λ (x : Cell). inRange (x .class) (get c v) ≡ true) (eqb (plain c .class) noCell) _ _ (λ e. absurd (let n = eqb-true (plain c .class) noCell e in let b = q .class in omega arith)) (λ _. in-class anything (get c v) (omega arith) (q .word) (λ e. absurd (omega arith))))
+  stored c k = rw (address-in c k, null-in (plain c .class) (get c v) (h c .range)) (in-class Anything (get c v) (h c .word))
 
   pub in-range : InRange v
-  in-range = record { held = of; null = λ c k. rw (address-in c k) (in-class (plain c .class) 0 (h c .class) (omega arith) (λ _. omega arith)) }
+  in-range = record { held = of; null = λ c k. rw (address-in c k) (null-in (plain c .class) (get c v) (h c .range)) }
     where
       of : (a : Access) → InTable (named a) → inRange (accessed a .class) (get (named a) v) ≡ true
       of (by.Load c) k = loaded c k

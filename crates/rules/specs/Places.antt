@@ -65,11 +65,8 @@ abbrev pub reclaims : ℕ → Row → Effect
 reclaims n r = stores 0 (also (cell.NodeState n) 0 (answers 4 n r))
 
 -- shutdown is over: the record table and both record heads become 0
-abbrev pub closes : Row → ℕ → Effect
-closes r total = record { row = r; number = 2; value = total; writes = true; put = 2; also = cell.Nothing; to = 0; guards = guards.Keep; closes = true }
-
 abbrev pub closing : ℕ → Effect
-closing total = closes idle total
+closing total = record { row = idle; number = 2; value = total; writes = true; put = 2; also = cell.Nothing; to = 0; guards = guards.Keep; closes = true }
 
 -- an exchange of `old` that saw v; a weak one also fails when the flag asks
 abbrev pub strong : ℕ → ℕ → Effect → Effect → Effect

@@ -69,27 +69,16 @@ busyBy inside owned = pick inside 27 (pick owned 27 0)
 unfoldable pub busy : List ℕ → List ℕ → ℕ
 busy rows32 records′ = busyBy (anyAbove rows32 0 row32 0 0 threads) (anyAbove records′ 1 4 3 0 records)
 
-unfoldable pub notProtectable : List ℕ → ℕ → ℕ → ℕ → ℕ
-notProtectable records t a b = orElse (notOwned records t a) (notSource b)
-
-unfoldable pub notTryable : List ℕ → ℕ → ℕ → ℕ → ℕ → ℕ
-notTryable records t a b n = orElse (notProtectable records t a b) (notNode n)
-
-unfoldable pub notRaw : List ℕ → ℕ → ℕ → ℕ → ℕ
-notRaw records t a n = orElse (notOwned records t a) (notNode n)
-
-unfoldable pub notSwappable : ℕ → ℕ → ℕ
-notSwappable b n = orElse (notSource b) (notNode n)
-
+-- the first of the operation's own, in the table's order
 unfoldable pub refusal : List ℕ → List ℕ → List ℕ → List ℕ → ℕ → Operation → ℕ
 refusal records sources nodes rows32 t Acquire = 0
 refusal records sources nodes rows32 t (Release a) = notOwned records t a
-refusal records sources nodes rows32 t (Protect a b) = notProtectable records t a b
-refusal records sources nodes rows32 t (Try a b n) = notTryable records t a b n
-refusal records sources nodes rows32 t (TryProtect a b n) = notTryable records t a b n
+refusal records sources nodes rows32 t (Protect a b) = orElse (notOwned records t a) (notSource b)
+refusal records sources nodes rows32 t (Try a b n) = orElse (notOwned records t a) (orElse (notSource b) (notNode n))
+refusal records sources nodes rows32 t (TryProtect a b n) = orElse (notOwned records t a) (orElse (notSource b) (notNode n))
 refusal records sources nodes rows32 t (Reset a) = notOwned records t a
-refusal records sources nodes rows32 t (Raw a n) = notRaw records t a n
-refusal records sources nodes rows32 t (Swap b n) = notSwappable b n
+refusal records sources nodes rows32 t (Raw a n) = orElse (notOwned records t a) (notNode n)
+refusal records sources nodes rows32 t (Swap b n) = orElse (notSource b) (notNode n)
 refusal records sources nodes rows32 t (Retire n x) = notRetirable sources nodes n
 refusal records sources nodes rows32 t Eager = 0
 refusal records sources nodes rows32 t Cleanup = 0
@@ -115,30 +104,20 @@ entry r c v = record { row = r; cell = c; put = v }
 abbrev pub quietly : ℕ → ℕ → ℕ → ℕ → ℕ → Entry
 quietly operation place rec source node = entry (freshAt operation place rec source node 0 0) cell.Nothing 0
 
--- a release gives up the record, a retire makes its node waiting, a shutdown sets the mark
-abbrev pub releases : ℕ → Entry
-releases a = entry (freshAt 2 (code Pc.D1) a 0 0 0 0) (cell.Holder a) 1
-
-abbrev pub retires : ℕ → ℕ → Entry
-retires n shard = entry (freshAt 9 (code Pc.T1) 0 0 0 n shard) (cell.NodeState n) 2
-
-abbrev pub shutsDown : Entry
-shutsDown = entry (freshAt 12 (code Pc.S1) 0 0 0 0 0) cell.Shutdown 1
-
--- the operation is kept as its kind in a frame
+-- a release gives up the record, a retire makes its node waiting, a shutdown sets the mark; the operation is kept as its kind in a frame
 unfoldable pub begins : Settings → Operation → Entry
 begins g Acquire = quietly 1 (code Pc.A1) 0 0 0
-begins g (Release a) = releases a
+begins g (Release a) = entry (freshAt 2 (code Pc.D1) a 0 0 0 0) (cell.Holder a) 1
 begins g (Protect a b) = quietly 3 (code Pc.V0) a b 0
 begins g (Try a b n) = quietly 4 (code Pc.V1) a b (narrow n)
 begins g (TryProtect a b n) = quietly 5 (code Pc.V1) a b (narrow n)
 begins g (Reset a) = quietly 6 (code Pc.Reset) a 0 0
 begins g (Raw a n) = quietly 7 (code Pc.Raw) a 0 (narrow n)
 begins g (Swap b n) = quietly 8 (code Pc.Swap) 0 b (narrow n)
-begins g (Retire n x) = retires (narrow n) (shardOf g x)
+begins g (Retire n x) = entry (freshAt 9 (code Pc.T1) 0 0 0 (narrow n) (shardOf g x)) (cell.NodeState (narrow n)) 2
 begins g Eager = quietly 10 (code Pc.B1) 0 0 0
 begins g Cleanup = quietly 11 (code Pc.B1) 0 0 0
-begins g Shutdown = shutsDown
+begins g Shutdown = entry (freshAt 12 (code Pc.S1) 0 0 0 0 0) cell.Shutdown 1
 
 unfoldable pub entered : State → ℕ → Entry → State
 entered s t e = state (written (s .cells) (address (e .cell)) (e .put)) (stored32 (s .rows32) t (e .row)) (stored64 (s .rows64) t (e .row)) (s .guards)

@@ -55,20 +55,15 @@ answer n v = record { number = n; value = v }
 abbrev pub refused : ℕ → State → Out
 refused n s = out (answer n 0) s
 
-abbrev pub sized : ℕ → ℕ → ℕ → ℕ → ℕ → ℕ → ℕ → ℕ → Bool
-sized h c r s n a b g =
-    both (eqb h 11) (both (eqb c 5) (both (eqb r (4 * records)) (both (eqb s sources) (both (eqb n (2 * nodes))
-    (both (eqb a (row32 * threads)) (both (eqb b (row64 * threads)) (eqb g (words * threads))))))))
-
 abbrev pub sizes : State → Bool
-sizes s = sized (length (s .cells .heads)) (length (s .cells .counters)) (length (s .cells .records)) (length (s .cells .sources)) (length (s .cells .nodes)) (length (s .rows32)) (length (s .rows64)) (length (s .guards))
+sizes s =
+    both (eqb (length (s .cells .heads)) 11) (both (eqb (length (s .cells .counters)) 5) (both (eqb (length (s .cells .records)) (4 * records))
+    (both (eqb (length (s .cells .sources)) sources) (both (eqb (length (s .cells .nodes)) (2 * nodes)) (both (eqb (length (s .rows32)) (row32 * threads))
+    (both (eqb (length (s .rows64)) (row64 * threads)) (eqb (length (s .guards)) (words * threads))))))))
 
 -- ---- one cell
-abbrev pub lists : Shared → List (List ℕ)
-lists s = [] ∷ s .heads ∷ s .counters ∷ s .records ∷ s .sources ∷ s .nodes ∷ []
-
 unfoldable pub fetched : Shared → Cell → ℕ
-fetched s c = getD (getD (lists s) (c .table) []) (c .at) 0
+fetched s c = getD (getD ([] ∷ s .heads ∷ s .counters ∷ s .records ∷ s .sources ∷ s .nodes ∷ []) (c .table) []) (c .at) 0
 
 -- where the cell stands in table k; past every table's end if it is of another
 abbrev pub atIn : Cell → ℕ → ℕ
@@ -99,15 +94,12 @@ guardsOf g t = take words (drop (t * words) g)
 abbrev pub guardsPut : List ℕ → ℕ → List ℕ → List ℕ
 guardsPut g t p = take (t * words) g ++ (p ++ drop words (drop (t * words) g))
 
-unfoldable pub guardedAt : List ℕ → ℕ → ℕ → Bool
-guardedAt g t n = isGuarded (guardsOf g t) n
-
 abbrev pub seen : ℕ → ℕ → ℕ → Bool → ℕ → Bool → ℕ → Seen
 seen x y untaken guarded t flag clock = record { x = x; v = x % 2 ^ 32; y = y; w = y % 2 ^ 32; untaken = untaken; guarded = guarded; thread = t; flag = flag; clock = clock }
 
 -- the row's step reads its cell c, and l beside it
 unfoldable pub readBy : Shared → List ℕ → ℕ → Bool → ℕ → Row → Cell → Cell → ℕ → Seen
-readBy s g t flag clock r c l untaken = seen (fetched s c) (fetched s l) untaken (guardedAt g t (first r)) t flag clock
+readBy s g t flag clock r c l untaken = seen (fetched s c) (fetched s l) untaken (isGuarded (guardsOf g t) (first r)) t flag clock
 
 -- 25 and 26 come before 29
 abbrev pub judge : Row → Bool → Effect → Effect
@@ -126,9 +118,6 @@ lookOf g s rows32 guards t flag clock r =
     lookBy g s rows32 guards t flag clock r (accessed (accessOf r)) (address (followOf r (untakenFor (s .records) (r .place)))) (untakenFor (s .records) (r .place))
 
 -- ---- how its effect is applied
-abbrev pub cellIf : Cell → Bool → Cell
-cellIf c writes = pick writes c nothing
-
 abbrev pub closed : Shared → Bool → Shared
 closed s b = pick b (shared (set (set (s .heads) 0 0) 1 0) (s .counters) (replicate (length (s .records)) 0) (s .sources) (s .nodes)) s
 
@@ -136,7 +125,7 @@ abbrev pub ticked : Shared → Shared
 ticked s = shared (s .heads) (set (s .counters) 4 (plus (getD (s .counters) 4 0) 1)) (s .records) (s .sources) (s .nodes)
 
 unfoldable pub cellsGiven : Shared → Cell → Effect → Shared
-cellsGiven s c e = ticked (closed (written (written s (cellIf c (e .writes)) (e .put)) (address (e .also)) (e .to)) (e .closes))
+cellsGiven s c e = ticked (closed (written (written s (pick (e .writes) c nothing) (e .put)) (address (e .also)) (e .to)) (e .closes))
 
 unfoldable pub guarded : List ℕ → Guards → List ℕ
 guarded set guards.Keep = set
@@ -153,15 +142,16 @@ given s t c e = state (cellsGiven (s .cells) c e) (stored32 (s .rows32) t (e .ro
 abbrev pub takeBy : State → ℕ → Cell → Effect → Out
 takeBy s t c e = pick (eqb (e .number) 29) (refused 29 s) (out (answer (e .number) (e .value)) (given s t c e))
 
-abbrev pub takeAt : Settings → State → ℕ → Bool → ℕ → Row → Out
-takeAt g s t flag clock r = takeBy s t (accessed (accessOf r)) (lookOf g (s .cells) (s .rows32) (s .guards) t flag clock r)
-
 unfoldable pub takeOf : Settings → State → ℕ → Bool → ℕ → Out
-takeOf g s t flag clock = takeAt g s t flag clock (rowAt (s .rows32) (s .rows64) t)
+takeOf g s t flag clock =
+    let r = rowAt (s .rows32) (s .rows64) t in
+    takeBy s t (accessed (accessOf r)) (lookOf g (s .cells) (s .rows32) (s .guards) t flag clock r)
 
 -- 19 and 21
 unfoldable pub stepIn : Settings → State → ℕ → Bool → ℕ → Out
-stepIn g s t flag clock = pick (leb steps (getD (s .cells .counters) 4 0)) (refused 19 s) (pick (eqb (getD (s .rows32) (t * row32) 0) (code Pc.Idle)) (refused 21 s) (takeOf g s t flag clock))
+stepIn g s t flag clock =
+    pick (leb steps (getD (s .cells .counters) 4 0)) (refused 19 s)
+    (pick (eqb (getD (s .rows32) (t * row32) 0) (code Pc.Idle)) (refused 21 s) (takeOf g s t flag clock))
 
 -- 16 and 17
 unfoldable pub stepOf : Settings → State → ℕ → Bool → ℕ → Out

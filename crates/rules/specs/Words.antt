@@ -20,20 +20,11 @@ abbrev pub shardOf : Settings → ℕ → ℕ
 shardOf g address = bitAnd (address / 2 ^ 8) (g .shards - 1)
 
 -- ---- a guarded set: node n at bit n - 1 from the lowest, over any number of words; 0 is no node
-abbrev pub bit : ℕ → ℕ → ℕ
-bit x b = x / 2 ^ b % 2
-
-abbrev pub member : List ℕ → ℕ → Bool
-member set n = eqb (bit (getD set ((n - 1) / 64) 0) ((n - 1) % 64)) 1
-
-abbrev pub marked : List ℕ → ℕ → List ℕ
-marked words n = set words ((n - 1) / 64) (bitOr (getD words ((n - 1) / 64) 0) (2 ^ ((n - 1) % 64)))
-
 unfoldable pub isGuarded : List ℕ → ℕ → Bool
-isGuarded words n = pick (eqb n 0) false (member words n)
+isGuarded words n = pick (eqb n 0) false (eqb (getD words ((n - 1) / 64) 0 / 2 ^ ((n - 1) % 64) % 2) 1)
 
 unfoldable pub guardedAlso : List ℕ → ℕ → List ℕ
-guardedAlso words n = pick (eqb n 0) words (marked words n)
+guardedAlso words n = pick (eqb n 0) words (set words ((n - 1) / 64) (bitOr (getD words ((n - 1) / 64) 0) (2 ^ ((n - 1) % 64))))
 
 unfoldable pub noneGuarded : List ℕ → List ℕ
 noneGuarded words = replicate (length words) 0

@@ -104,11 +104,22 @@ pub enum Access {
     Private(Named),
 }
 
+// What a cell may hold; the cell of an id that is none holds nothing.
+pub enum Class {
+    Anything,
+    ARecord,
+    ANode,
+    AnAvailable,
+    AState,
+    AHolder,
+    NoCell,
+}
+
 // Where a cell stands, and the class of what it may hold.
 pub struct Cell {
     pub table: u32,
     pub at: u32,
-    pub class: u32,
+    pub class: Class,
 }
 
 // What a step saw: its cell (x, as an id v), the second cell (y, as an id w), the lowest row that is not taken,

@@ -1,6 +1,8 @@
 // What a start writes: the thread's row, and one cell.
 ghost use mathlib.Core.Path.{_≡_};
 ghost use Rattle.rules.specs.Sizes.{base};
+ghost use Rattle.rules.specs.Pc;
+ghost use Rattle.rules.specs.Pc.{code};
 ghost use Rattle.rules.specs.Start.{begins, entry, freshAt, narrow};
 ghost use Rattle.rules.specs.Start;
 ghost use Rattle.rules.specs.Words.{shardOf};
@@ -61,7 +63,7 @@ fn quietly(operation: u32, place: u32, rec: u32, source: u32, node: u64) -> Entr
 
 // A release gives up the record.
 fn releases(rec: u32) -> Entry
-    ensures { λ e. ⌜ e ≡ Start.releases rec ⌝ }
+    ensures { λ e. ⌜ e ≡ entry (freshAt 2 (code Pc.D1) rec 0 0 0 0) (Named.Holder rec) 1 ⌝ }
 {
     enters(
         fresh(kind::RELEASE, place::D1, rec, 0, 0, 0, 0),
@@ -71,7 +73,7 @@ fn releases(rec: u32) -> Entry
 }
 
 fn waits(node: u32, shard: u32) -> Entry
-    ensures { λ e. ⌜ e ≡ Start.retires node shard ⌝ }
+    ensures { λ e. ⌜ e ≡ entry (freshAt 9 (code Pc.T1) 0 0 0 node shard) (Named.NodeState node) 2 ⌝ }
 {
     enters(
         fresh(kind::RETIRE, place::T1, 0, 0, 0, node, shard),
@@ -82,14 +84,14 @@ fn waits(node: u32, shard: u32) -> Entry
 
 // A retire makes its node waiting.
 fn retires(node: u64, address: u64) -> Entry
-    ensures { λ e. ⌜ e ≡ Start.retires (narrow node) (shardOf base address) ⌝ }
+    ensures { λ e. ⌜ e ≡ entry (freshAt 9 (code Pc.T1) 0 0 0 (narrow node) (shardOf base address)) (Named.NodeState (narrow node)) 2 ⌝ }
 {
     waits(cut(node), bits::shard(address))
 }
 
 // A shutdown sets the mark.
 fn shuts_down() -> Entry
-    ensures { λ e. ⌜ e ≡ Start.shutsDown ⌝ }
+    ensures { λ e. ⌜ e ≡ entry (freshAt 12 (code Pc.S1) 0 0 0 0 0) Named.Shutdown 1 ⌝ }
 {
     enters(
         fresh(kind::SHUTDOWN, place::S1, 0, 0, 0, 0, 0),

@@ -1,7 +1,7 @@
 // What a start refuses, by document 01's numbers; 0 for none.
 ghost use mathlib.Core.Path.{_≡_};
 ghost use Rattle.rules.specs.Step.{atIn};
-ghost use Rattle.rules.specs.Start.{orElse, notOwned, notSource, notNode, retireBy, notRetirable, busyBy, busy, notProtectable, notTryable, notRaw, notSwappable, refusal, refuseBy, narrow};
+ghost use Rattle.rules.specs.Start.{orElse, notOwned, notSource, notNode, retireBy, notRetirable, busyBy, busy, refusal, refuseBy, narrow};
 ghost use Rattle.rules.specs.Cells;
 ghost use Rattle.rules.specs.Step.{shared};
 ghost use Rattle.rules.specs.Start.{refuseOf};
@@ -71,25 +71,25 @@ fn not_node(node: u64) -> u32
 }
 
 fn not_protectable(records: &[u32], t: u32, rec: u32, source: u32) -> u32
-    ensures { λ n. ⌜ n ≡ notProtectable (now (records .entry)) t rec source ⌝ }
+    ensures { λ n. ⌜ n ≡ orElse (notOwned (now (records .entry)) t rec) (notSource source) ⌝ }
 {
     or_else(not_owned(records, t, rec), not_source(source))
 }
 
 fn not_tryable(records: &[u32], t: u32, rec: u32, source: u32, node: u64) -> u32
-    ensures { λ n. ⌜ n ≡ notTryable (now (records .entry)) t rec source node ⌝ }
+    ensures { λ n. ⌜ n ≡ orElse (notOwned (now (records .entry)) t rec) (orElse (notSource source) (notNode node)) ⌝ }
 {
-    or_else(not_protectable(records, t, rec, source), not_node(node))
+    or_else(not_owned(records, t, rec), not_swappable(source, node))
 }
 
 fn not_raw(records: &[u32], t: u32, rec: u32, node: u64) -> u32
-    ensures { λ n. ⌜ n ≡ notRaw (now (records .entry)) t rec node ⌝ }
+    ensures { λ n. ⌜ n ≡ orElse (notOwned (now (records .entry)) t rec) (notNode node) ⌝ }
 {
     or_else(not_owned(records, t, rec), not_node(node))
 }
 
 fn not_swappable(source: u32, node: u64) -> u32
-    ensures { λ n. ⌜ n ≡ notSwappable source node ⌝ }
+    ensures { λ n. ⌜ n ≡ orElse (notSource source) (notNode node) ⌝ }
 {
     or_else(not_source(source), not_node(node))
 }

@@ -3,11 +3,12 @@ ghost use mathlib.Core.Path.{_≡_};
 ghost use Prim.Native.Nat.{_+_, _*_, _<_, _%_, _^_};
 ghost use lib.ListN.{length, getD, set, replicate};
 ghost use Rattle.base.specs.Pick.{pick};
-ghost use Rattle.rules.specs.Cells.{address, accessed, inRange, cellAt, wordOf, unread};
-ghost use Rattle.rules.specs.Step.{shared, fetched, atIn, written, cellIf, cellsGiven};
+ghost use Rattle.rules.specs.Cells.{address, accessed, inRange, cellAt, nothing, wordOf, unread};
+ghost use Rattle.rules.specs.Step.{shared, fetched, atIn, written, cellsGiven};
 ghost use Rattle.rules.specs.Words.{plus};
 use rules::Access;
 use rules::Cell;
+use rules::Class;
 use rules::Effect;
 use rules::NODES;
 use rules::Named;
@@ -27,29 +28,23 @@ const IN_SOURCES: u32 = 4;
 
 pub const IN_NODES: u32 = 5;
 
-// The classes of contents, by the rules' numbers.
-const ANYTHING: u32 = 0;
+// The largest contents.
+const RECORD_MOST: u64 = RECORDS as u64;
 
-const A_RECORD: u32 = 1;
+const NODE_MOST: u64 = NODES as u64;
 
-const A_NODE: u32 = 2;
+const AVAILABLE_MOST: u64 = 2 * RECORDS as u64 + 1;
 
-const AN_AVAILABLE: u32 = 3;
+const HOLDER_MOST: u64 = THREADS as u64 + 1;
 
-const A_STATE: u32 = 4;
-
-const A_HOLDER: u32 = 5;
-
-const NO_CELL: u32 = 6;
-
-fn cell_at(table: u32, at: u32, class: u32) -> Cell
+fn cell_at(table: u32, at: u32, class: Class) -> Cell
     ensures { λ r. ⌜ r ≡ cellAt table at class ⌝ }
 {
     Cell { table, at, class }
 }
 
 // Word k of row id in a table of n rows of w words.
-fn word_of(table: u32, n: u32, w: u32, id: u32, k: u32, class: u32) -> Cell
+fn word_of(table: u32, n: u32, w: u32, id: u32, k: u32, class: Class) -> Cell
     requires { ⌜ n * w + k < 4294967296 ⌝ }
     ensures { λ r. ⌜ r ≡ wordOf table n w id k class ⌝ }
 {
@@ -57,14 +52,14 @@ fn word_of(table: u32, n: u32, w: u32, id: u32, k: u32, class: u32) -> Cell
         return Cell {
             table: 0,
             at: 0,
-            class: NO_CELL,
+            class: Class::NoCell,
         };
     }
     if n < id {
         return Cell {
             table: 0,
             at: 0,
-            class: NO_CELL,
+            class: Class::NoCell,
         };
     }
     Cell {
@@ -81,13 +76,13 @@ fn shard_head(k: u32) -> Cell
         return Cell {
             table: HEADS,
             at: k + 3,
-            class: A_NODE,
+            class: Class::ANode,
         };
     }
     Cell {
         table: 0,
         at: 0,
-        class: NO_CELL,
+        class: Class::NoCell,
     }
 }
 
@@ -96,22 +91,22 @@ pub fn address(n: Named) -> Cell
     ensures { λ r. ⌜ r ≡ address n ⌝ }
 {
     match n {
-        Named::Nothing => cell_at(0, 0, ANYTHING),
-        Named::RecordHead => cell_at(HEADS, 0, A_RECORD),
-        Named::HeadAvailable => cell_at(HEADS, 1, AN_AVAILABLE),
-        Named::Shutdown => cell_at(HEADS, 2, A_STATE),
+        Named::Nothing => cell_at(0, 0, Class::Anything),
+        Named::RecordHead => cell_at(HEADS, 0, Class::ARecord),
+        Named::HeadAvailable => cell_at(HEADS, 1, Class::AnAvailable),
+        Named::Shutdown => cell_at(HEADS, 2, Class::AState),
         Named::ShardHead(k) => shard_head(k),
-        Named::RecordCount => cell_at(COUNTERS, 0, ANYTHING),
-        Named::Count => cell_at(COUNTERS, 1, ANYTHING),
-        Named::DueTime => cell_at(COUNTERS, 2, ANYTHING),
-        Named::BulkReclaims => cell_at(COUNTERS, 3, ANYTHING),
-        Named::Hazard(r) => word_of(IN_RECORDS, RECORDS, 4, r, 0, A_NODE),
-        Named::AvailableNext(r) => word_of(IN_RECORDS, RECORDS, 4, r, 1, A_RECORD),
-        Named::RecordNext(r) => word_of(IN_RECORDS, RECORDS, 4, r, 2, A_RECORD),
-        Named::Holder(r) => word_of(IN_RECORDS, RECORDS, 4, r, 3, A_HOLDER),
-        Named::Source(b) => word_of(IN_SOURCES, SOURCES, 1, b, 0, A_NODE),
-        Named::NodeNext(n) => word_of(IN_NODES, NODES, 2, n, 0, A_NODE),
-        Named::NodeState(n) => word_of(IN_NODES, NODES, 2, n, 1, A_STATE),
+        Named::RecordCount => cell_at(COUNTERS, 0, Class::Anything),
+        Named::Count => cell_at(COUNTERS, 1, Class::Anything),
+        Named::DueTime => cell_at(COUNTERS, 2, Class::Anything),
+        Named::BulkReclaims => cell_at(COUNTERS, 3, Class::Anything),
+        Named::Hazard(r) => word_of(IN_RECORDS, RECORDS, 4, r, 0, Class::ANode),
+        Named::AvailableNext(r) => word_of(IN_RECORDS, RECORDS, 4, r, 1, Class::ARecord),
+        Named::RecordNext(r) => word_of(IN_RECORDS, RECORDS, 4, r, 2, Class::ARecord),
+        Named::Holder(r) => word_of(IN_RECORDS, RECORDS, 4, r, 3, Class::AHolder),
+        Named::Source(b) => word_of(IN_SOURCES, SOURCES, 1, b, 0, Class::ANode),
+        Named::NodeNext(n) => word_of(IN_NODES, NODES, 2, n, 0, Class::ANode),
+        Named::NodeState(n) => word_of(IN_NODES, NODES, 2, n, 1, Class::AState),
     }
 }
 
@@ -119,14 +114,21 @@ pub fn address(n: Named) -> Cell
 fn unread(c: Cell) -> Cell
     ensures { λ r. ⌜ r ≡ unread c ⌝ }
 {
-    if c.class == NO_CELL {
-        return c;
+    let class = c.class;
+    any_if(c, in_range(class, 0))
+}
+
+fn any_if(c: Cell, is: bool) -> Cell
+    ensures { λ r. ⌜ r ≡ pick is (cellAt (c .table) (c .at) Class.Anything) c ⌝ }
+{
+    if is {
+        return Cell {
+            table: c.table,
+            at: c.at,
+            class: Class::Anything,
+        };
     }
-    Cell {
-        table: c.table,
-        at: c.at,
-        class: ANYTHING,
-    }
+    c
 }
 
 fn stored(n: Named) -> Cell
@@ -148,34 +150,29 @@ pub fn accessed(a: Access) -> Cell
     }
 }
 
-// The largest content of each class.
-const MOST: [u64; 6] = [
-    18446744073709551615,
-    RECORDS as u64,
-    NODES as u64,
-    2 * RECORDS as u64 + 1,
-    2,
-    THREADS as u64 + 1,
-];
+// `head_available` is 0 or from 2 on.
+fn available(x: u64) -> bool
+    ensures { λ r. ⌜ r ≡ inRange Class.AnAvailable x ⌝ }
+{
+    if x == 1 {
+        return false;
+    }
+    x <= AVAILABLE_MOST
+}
 
 // Whether a cell of the class may hold x.
-pub fn in_range(class: u32, x: u64) -> bool
+pub fn in_range(class: Class, x: u64) -> bool
     ensures { λ r. ⌜ r ≡ inRange class x ⌝ }
 {
-    if A_HOLDER < class {
-        return false;
+    match class {
+        Class::Anything => x <= 18446744073709551615,
+        Class::ARecord => x <= RECORD_MOST,
+        Class::ANode => x <= NODE_MOST,
+        Class::AnAvailable => available(x),
+        Class::AState => x <= 2,
+        Class::AHolder => x <= HOLDER_MOST,
+        Class::NoCell => false,
     }
-    let k = class as usize;
-    if MOST[k] < x {
-        return false;
-    }
-    if class == AN_AVAILABLE {
-        if x == 1 {
-            return false;
-        }
-        return true;
-    }
-    true
 }
 
 // A word of a table of ids, 0 past its end.
@@ -307,7 +304,7 @@ pub fn write(
 }
 
 fn cell_if(c: Cell, writes: bool) -> Cell
-    ensures { λ r. ⌜ r ≡ cellIf c writes ⌝ }
+    ensures { λ r. ⌜ r ≡ pick writes c nothing ⌝ }
 {
     if writes {
         return c;
@@ -315,7 +312,7 @@ fn cell_if(c: Cell, writes: bool) -> Cell
     Cell {
         table: 0,
         at: 0,
-        class: ANYTHING,
+        class: Class::Anything,
     }
 }
 

@@ -15,10 +15,12 @@ use Rattle.rules.specs.Pc
 use Rattle.rules.specs.Pc.{code}
 use Rattle.rules.specs.Cells
 use Rattle.rules.specs.Cells.{address, cellAt, nowhere}
+use Rattle.rules.specs.declared.Class.{Class}
+use Rattle.rules.specs.declared.Class.the-variants.{AState, AHolder}
 use Rattle.rules.specs.Rows.{rowAt}
 use Rattle.rules.specs.Step.{State, Out, out, answer, refused, sizes, atIn}
 use Rattle.rules.specs.Facts.{retire-unlinked, shutdown-alone}
-use Rattle.rules.specs.Start.{isIn, isAbove, anyAbove, narrow, orElse, notOwned, notSource, notNode, retireBy, notRetirable, busyBy, busy, notProtectable, notTryable, notRaw, notSwappable, refusal, refuseBy, refuseOf, begins, entered, ofNull, startBy, startIn, startOf}
+use Rattle.rules.specs.Start.{isIn, isAbove, anyAbove, narrow, orElse, notOwned, notSource, notNode, retireBy, notRetirable, busyBy, busy, refusal, refuseBy, refuseOf, begins, entered, ofNull, startBy, startIn, startOf}
 use Rattle.rules.specs.declared.Operation.{Operation}
 use Rattle.rules.specs.declared.Operation.the-variants.{Acquire, Release, Protect, Try, TryProtect, Reset, Raw, Swap, Retire, Eager, Cleanup, Shutdown}
 use Rattle.rules.specs.declared.Named.{Named}
@@ -82,7 +84,7 @@ node-in : (n : ℕ) → notNode n ≡ 0 → n ≤ nodes
 node-in n h = ltb-false nodes n (fails (ltb nodes n) 24 0 (omega arith) h .0)
 
 -- a word of a table, read through an address that may be none
-module _ (l : List ℕ) (n w k class table : ℕ) (small : length l ≤ 4294967295) where
+module _ (l : List ℕ) (n w k : ℕ) (class : Class) (table : ℕ) (small : length l ≤ 4294967295) where
   word-at : (id v : ℕ) → getD l (atIn (pick (eqb id 0) nowhere (pick (ltb n id) nowhere (cellAt table ((id - 1) * w + k) class))) table) 0 ≡ v → eqb 0 table ≡ false → eqb table table ≡ true → v ≢ 0 → IsId n id × (getD (field w k n l) id 0 ≡ v)
   word-at id v h t0 t1 nz = go (eqb id 0) (ltb n id) refl refl h
     where
@@ -124,22 +126,21 @@ none-above l m w k i (suc n) h j p q = go (ltb m (getD l (i * w + k) 0)) refl h 
 module _ (s : State) (z : Sized s) (t : ℕ) where
   owned : (a : ℕ) → notOwned (s .cells .records) t a ≡ 0 → Owned (viewOf s) t a
   unfolding viewOf notOwned address
-  owned a h = word-at (s .cells .records) records 4 3 5 3 (omega (arith, z .cells .records)) a (t + 2) (eqb-true _ (t + 2) (holds (eqb (getD (s .cells .records) (atIn (address (cell.Holder a)) Cells.inRecords) 0) (t + 2)) 22 0 (omega arith) h .0)) refl refl (omega arith)
+  owned a h = word-at (s .cells .records) records 4 3 AHolder 3 (omega (arith, z .cells .records)) a (t + 2) (eqb-true _ (t + 2) (holds (eqb (getD (s .cells .records) (atIn (address (cell.Holder a)) Cells.inRecords) 0) (t + 2)) 22 0 (omega arith) h .0)) refl refl (omega arith)
 
-  protectable : (a b : ℕ) → notProtectable (s .cells .records) t a b ≡ 0 → Owned (viewOf s) t a × IsId sources b
-  unfolding notProtectable
+  protectable : (a b : ℕ) → orElse (notOwned (s .cells .records) t a) (notSource b) ≡ 0 → Owned (viewOf s) t a × IsId sources b
   protectable a b h = let p = both-0 (notOwned (s .cells .records) t a) (notSource b) h in (owned a (p .0), source-in b (p .1))
 
-  tryable : (a b n : ℕ) → notTryable (s .cells .records) t a b n ≡ 0 → (Owned (viewOf s) t a × IsId sources b) × (n ≤ nodes)
-  unfolding notTryable
-  tryable a b n h = let p = both-0 (notProtectable (s .cells .records) t a b) (notNode n) h in (protectable a b (p .0), node-in n (p .1))
+  tryable : (a b n : ℕ) → orElse (notOwned (s .cells .records) t a) (orElse (notSource b) (notNode n)) ≡ 0 → (Owned (viewOf s) t a × IsId sources b) × (n ≤ nodes)
+  tryable a b n h =
+      let p = both-0 (notOwned (s .cells .records) t a) (orElse (notSource b) (notNode n)) h in
+      let q = both-0 (notSource b) (notNode n) (p .1) in
+      ((owned a (p .0), source-in b (q .0)), node-in n (q .1))
 
-  raw : (a n : ℕ) → notRaw (s .cells .records) t a n ≡ 0 → Owned (viewOf s) t a × (n ≤ nodes)
-  unfolding notRaw
+  raw : (a n : ℕ) → orElse (notOwned (s .cells .records) t a) (notNode n) ≡ 0 → Owned (viewOf s) t a × (n ≤ nodes)
   raw a n h = let p = both-0 (notOwned (s .cells .records) t a) (notNode n) h in (owned a (p .0), node-in n (p .1))
 
-  swappable : (b n : ℕ) → notSwappable b n ≡ 0 → IsId sources b × (n ≤ nodes)
-  unfolding notSwappable
+  swappable : (b n : ℕ) → orElse (notSource b) (notNode n) ≡ 0 → IsId sources b × (n ≤ nodes)
   swappable b n h = let p = both-0 (notSource b) (notNode n) h in (source-in b (p .0), node-in n (p .1))
 
   sources-none : (n : ℕ) → n ≢ 0 → isIn n (s .cells .sources) ≡ false → (b : ℕ) → getD (viewOf s .sources) b 0 ≢ n
@@ -153,7 +154,7 @@ module _ (s : State) (z : Sized s) (t : ℕ) where
 
   state-at : (m : ℕ) → getD (s .cells .nodes) (atIn (address (cell.NodeState m)) Cells.inNodes) 0 ≡ 1 → IsId nodes m × (getD (viewOf s .nodes .state) m 0 ≡ 1)
   unfolding viewOf address
-  state-at m q = word-at (s .cells .nodes) nodes 2 1 4 5 (omega (arith, z .cells .nodes)) m 1 q refl refl (omega arith)
+  state-at m q = word-at (s .cells .nodes) nodes 2 1 AState 5 (omega (arith, z .cells .nodes)) m 1 q refl refl (omega arith)
 
   retirable : (n x : ℕ) → notRetirable (s .cells .sources) (s .cells .nodes) n ≡ 0 → Admitted (viewOf s) t (Retire n x)
   unfolding notRetirable
@@ -221,12 +222,12 @@ module _ (P : ℕ → Type 0) (none : P 0) (high : (n : ℕ) → 16 < n → n �
   busy-all a b = pick-case P a _ _ (λ _. high 27 (omega arith) (omega arith)) (λ _. pick-case P b _ _ (λ _. high 27 (omega arith) (omega arith)) (λ _. none))
 
   refusal-all : (s : State) (t : ℕ) (o : Operation) → (isAbove nodes (s .cells .sources) ≡ true → P 29) → P (refusal (s .cells .records) (s .cells .sources) (s .cells .nodes) (s .rows32) t o)
-  unfolding refusal notProtectable notTryable notRaw notSwappable notRetirable busy
+  unfolding refusal notRetirable busy
   refusal-all s t Acquire d = none
   refusal-all s t (Release a) d = owned-all (s .cells .records) t a
   refusal-all s t (Protect a b) d = or-all _ _ (owned-all (s .cells .records) t a) (source-all b)
-  refusal-all s t (Try a b n) d = or-all _ _ (or-all _ _ (owned-all (s .cells .records) t a) (source-all b)) (node-all n)
-  refusal-all s t (TryProtect a b n) d = or-all _ _ (or-all _ _ (owned-all (s .cells .records) t a) (source-all b)) (node-all n)
+  refusal-all s t (Try a b n) d = or-all _ _ (owned-all (s .cells .records) t a) (or-all _ _ (source-all b) (node-all n))
+  refusal-all s t (TryProtect a b n) d = or-all _ _ (owned-all (s .cells .records) t a) (or-all _ _ (source-all b) (node-all n))
   refusal-all s t (Reset a) d = owned-all (s .cells .records) t a
   refusal-all s t (Raw a n) d = or-all _ _ (owned-all (s .cells .records) t a) (node-all n)
   refusal-all s t (Swap b n) d = or-all _ _ (source-all b) (node-all n)

@@ -6,16 +6,16 @@ use mathlib.Core.Bool.{Bool, true, false}
 use mathlib.Core.List.{List, [], _++_}
 use lib.ListN.{length, getD, set, take, drop, replicate, length-set, length-take, length-drop, length-append, length-replicate, List·getD-append}
 use lib.Seq.{getD-set-same, getD-set-other, ext-getD, getD-append-add, getD-take, getD-drop}
-use lib.Dec.{eqb}
 use borrow.Author.Tests.{eqb-true, eq-eqb}
 use native.Mathlib.Decide.{decLt}
 use native.Mathlib.Omega.{arith}
 use Rattle.base.specs.Pick.{pick, both, is-both}
 use Rattle.rules.specs.Sizes.{records, sources, nodes, threads, words, row32, row64}
 use Rattle.rules.specs.Words.{plus}
-use Rattle.rules.specs.Cells.{address, accessed, unread, nothing, noCell}
+use Rattle.rules.specs.Cells.{address, accessed, cellAt, inRange, unread, nothing}
+use Rattle.rules.specs.declared.Class.the-variants.{Anything}
 use Rattle.rules.specs.Rows.{rowAt, stored32, stored64}
-use Rattle.rules.specs.Step.{Shared, State, shared, state, sizes, written, cellIf, closed, ticked, cellsGiven, guardsOf, guardsPut, guarded, guardsGiven, given}
+use Rattle.rules.specs.Step.{Shared, State, shared, state, sizes, written, closed, ticked, cellsGiven, guardsOf, guardsPut, guarded, guardsGiven, given}
 use Rattle.rules.specs.Start.{entered}
 use Rattle.rules.specs.declared.Cell.{Cell}
 use Rattle.rules.specs.declared.Row.{Row}
@@ -77,9 +77,9 @@ sized-ticked s z = record { heads = z .heads; counters = rw length-set (z .count
 -- a store's cell is at the same place
 unread-written : (s : Shared) (c : Cell) (x : ℕ) → written s (unread c) x ≡ written s c x
 unfolding written
-unread-written s c x = go (eqb (c .class) noCell)
+unread-written s c x = go (inRange (c .class) 0)
   where
-    go : (b : Bool) → written s (pick b c (record { table = c .table; at = c .at; class = 0 })) x ≡ written s c x
+    go : (b : Bool) → written s (pick b (cellAt (c .table) (c .at) Anything) c) x ≡ written s c x
     go true = refl
     go false = refl
 
@@ -91,7 +91,7 @@ access-written s (by.Update c) x = refl
 access-written s (by.Private c) x = refl
 
 module _ (s : Shared) (z : SizedCells s) (rs : List Row) (q : List (List ℕ)) where
-  access-view : (a : Access) (w : Bool) (x : ℕ) → (w ≡ true → InTable (named a)) → (w ≡ true → Fits (named a) x) → view (written s (cellIf (accessed a) w) x) rs q ≡ putIf w (named a) x (view s rs q)
+  access-view : (a : Access) (w : Bool) (x : ℕ) → (w ≡ true → InTable (named a)) → (w ≡ true → Fits (named a) x) → view (written s (pick w (accessed a) nothing) x) rs q ≡ putIf w (named a) x (view s rs q)
   unfolding address
   access-view a true x h f = ap (λ (t : Shared). view t rs q) (access-written s a x) ∙ written-view s z rs q x (named a) (h refl) (f refl)
   access-view a false x h f = written-view s z rs q x cell.Nothing tt tt
@@ -135,13 +135,13 @@ pub record Sound (a : Access) (e : Effect) : Type 0 where
 
 module _ (s : Shared) (z : SizedCells s) (rs : List Row) (q : List (List ℕ)) (a : Access) (e : Effect) (h : Sound a e) where
   abbrev s₁ : Shared
-  s₁ = written s (cellIf (accessed a) (e .writes)) (e .put)
+  s₁ = written s (pick (e .writes) (accessed a) nothing) (e .put)
 
   abbrev s₂ : Shared
   s₂ = written s₁ (address (e .also)) (e .to)
 
   z₁ : SizedCells s₁
-  z₁ = sized-written s (cellIf (accessed a) (e .writes)) (e .put) z
+  z₁ = sized-written s (pick (e .writes) (accessed a) nothing) (e .put) z
 
   z₂ : SizedCells s₂
   z₂ = sized-written s₁ (address (e .also)) (e .to) z₁

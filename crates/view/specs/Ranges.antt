@@ -6,7 +6,7 @@ use mathlib.Core.Bool.{Bool, true, false, false≢true}
 use mathlib.Core.List.{List, [], _∷_, map}
 use lib.ListN.{length, getD, List·getD-map}
 use lib.Dec.{eqb, ltb}
-use borrow.Author.Tests.{eqb-true, eqb-false, ltb-true, ltb-false}
+use borrow.Author.Tests.{eqb-true, eqb-false, ltb-true, ltb-false, leb-true}
 use native.Mathlib.Decide.{decLt}
 use native.Mathlib.Nat.{not-suc-le-zero, le-of-suc-le-suc}
 use native.Mathlib.Omega.{arith}
@@ -14,7 +14,9 @@ use Rattle.base.specs.Pick.{pick, both, is-both}
 use Rattle.rules.specs.Sizes.{records, sources, nodes, threads, row32, row64, Settings}
 use Rattle.rules.specs.Pc
 use Rattle.rules.specs.Pc.{Pc, places, pcOf, code}
-use Rattle.rules.specs.Cells.{address, accessed, unread, cellAt, nowhere, noCell, inRange, aHolder, anAvailable, most}
+use Rattle.rules.specs.Cells.{address, accessed, unread, cellAt, nowhere, inRange}
+use Rattle.rules.specs.declared.Class.{Class}
+use Rattle.rules.specs.declared.Class.the-variants.{Anything, NoCell}
 use Rattle.rules.specs.Rows.{rowAt, rowFits, rowMost, within}
 use Rattle.rules.specs.declared.Cell.{Cell}
 use Rattle.rules.specs.declared.Row.{Row}
@@ -33,27 +35,27 @@ not-first false x e = (refl, e)
 
 -- ---- names of cells
 -- the class of no cell holds nothing
-pub is-cell : (class x : ℕ) → inRange class x ≡ true → class ≢ noCell
+pub is-cell : (class : Class) (x : ℕ) → inRange class x ≡ true → class ≢ NoCell
 unfolding inRange
 is-cell class x h e = false≢true (rw e at h)
 
 -- a cell that is taken if two tests fail
-in-word : (n id : ℕ) (c : Cell) → pick (eqb id 0) nowhere (pick (ltb n id) nowhere c) .class ≢ noCell → IsId n id
+in-word : (n id : ℕ) (c : Cell) → pick (eqb id 0) nowhere (pick (ltb n id) nowhere c) .class ≢ NoCell → IsId n id
 in-word n id c = go (eqb id 0) (ltb n id) refl refl
   where
-    go : (a b : Bool) → eqb id 0 ≡ a → ltb n id ≡ b → pick a nowhere (pick b nowhere c) .class ≢ noCell → IsId n id
+    go : (a b : Bool) → eqb id 0 ≡ a → ltb n id ≡ b → pick a nowhere (pick b nowhere c) .class ≢ NoCell → IsId n id
     go true b ea eb h = absurd (h refl)
     go false true ea eb h = absurd (h refl)
     go false false ea eb h = let z = eqb-false id 0 ea in (omega arith, ltb-false n id eb)
 
-in-shard : (k : ℕ) (c : Cell) → pick (ltb k 8) c nowhere .class ≢ noCell → k < shardHeads
+in-shard : (k : ℕ) (c : Cell) → pick (ltb k 8) c nowhere .class ≢ NoCell → k < shardHeads
 in-shard k c = go (ltb k 8) refl
   where
-    go : (a : Bool) → ltb k 8 ≡ a → pick a c nowhere .class ≢ noCell → k < shardHeads
+    go : (a : Bool) → ltb k 8 ≡ a → pick a c nowhere .class ≢ NoCell → k < shardHeads
     go true e h = ltb-true k 8 e
     go false e h = absurd (h refl)
 
-pub reached : (c : Named) → address c .class ≢ noCell → InTable c
+pub reached : (c : Named) → address c .class ≢ NoCell → InTable c
 unfolding address
 reached cell.Nothing h = tt
 reached cell.RecordHead h = tt
@@ -72,12 +74,12 @@ reached (cell.Source b) h = in-word sources b _ h
 reached (cell.NodeNext n) h = in-word nodes n _ h
 reached (cell.NodeState n) h = in-word nodes n _ h
 
-unread-cell : (c : Cell) (x : ℕ) → inRange (unread c .class) x ≡ true → c .class ≢ noCell
-unread-cell c x h e = go (eqb (c .class) noCell) refl h
+unread-cell : (c : Cell) (x : ℕ) → inRange (unread c .class) x ≡ true → c .class ≢ NoCell
+unread-cell c x h e = go (inRange (c .class) 0) refl h
   where
-    go : (b : Bool) → eqb (c .class) noCell ≡ b → inRange (pick b c (cellAt (c .table) (c .at) 0) .class) x ≡ true → ⊥
-    go true q k = is-cell (c .class) x k e
-    go false q k = eqb-false (c .class) noCell q e
+    go : (b : Bool) → inRange (c .class) 0 ≡ b → inRange (pick b (cellAt (c .table) (c .at) Anything) c .class) x ≡ true → ⊥
+    go true q k = is-cell (c .class) 0 q e
+    go false q k = is-cell (c .class) x k e
 
 pub access-reached : (a : Access) (x : ℕ) → inRange (accessed a .class) x ≡ true → InTable (named a)
 access-reached (by.Load c) x h = reached c (is-cell _ x h)
@@ -116,22 +118,22 @@ Reads (by.Private c) = Unit {0}
 
 in-plain : (c : Named) (x : ℕ) → inRange (plain c .class) x ≡ true → x ≤ limit c
 unfolding inRange
-in-plain cell.Nothing x h = ltb-false _ x (not-first _ _ h .0)
-in-plain cell.RecordHead x h = ltb-false _ x (not-first _ _ h .0)
-in-plain cell.HeadAvailable x h = ltb-false _ x (not-first _ _ h .0)
-in-plain cell.Shutdown x h = ltb-false _ x (not-first _ _ h .0)
-in-plain (cell.ShardHead k) x h = ltb-false _ x (not-first _ _ h .0)
-in-plain cell.RecordCount x h = ltb-false _ x (not-first _ _ h .0)
-in-plain cell.Count x h = ltb-false _ x (not-first _ _ h .0)
-in-plain cell.DueTime x h = ltb-false _ x (not-first _ _ h .0)
-in-plain cell.BulkReclaims x h = ltb-false _ x (not-first _ _ h .0)
-in-plain (cell.Hazard r) x h = ltb-false _ x (not-first _ _ h .0)
-in-plain (cell.AvailableNext r) x h = ltb-false _ x (not-first _ _ h .0)
-in-plain (cell.RecordNext r) x h = ltb-false _ x (not-first _ _ h .0)
-in-plain (cell.Holder r) x h = ltb-false _ x (not-first _ _ h .0)
-in-plain (cell.Source b) x h = ltb-false _ x (not-first _ _ h .0)
-in-plain (cell.NodeNext n) x h = ltb-false _ x (not-first _ _ h .0)
-in-plain (cell.NodeState n) x h = ltb-false _ x (not-first _ _ h .0)
+in-plain cell.Nothing x h = leb-true x _ h
+in-plain cell.RecordHead x h = leb-true x _ h
+in-plain cell.HeadAvailable x h = leb-true x _ (not-first (eqb x 1) _ h .1)
+in-plain cell.Shutdown x h = leb-true x _ h
+in-plain (cell.ShardHead k) x h = leb-true x _ h
+in-plain cell.RecordCount x h = leb-true x _ h
+in-plain cell.Count x h = leb-true x _ h
+in-plain cell.DueTime x h = leb-true x _ h
+in-plain cell.BulkReclaims x h = leb-true x _ h
+in-plain (cell.Hazard r) x h = leb-true x _ h
+in-plain (cell.AvailableNext r) x h = leb-true x _ h
+in-plain (cell.RecordNext r) x h = leb-true x _ h
+in-plain (cell.Holder r) x h = leb-true x _ h
+in-plain (cell.Source b) x h = leb-true x _ h
+in-plain (cell.NodeNext n) x h = leb-true x _ h
+in-plain (cell.NodeState n) x h = leb-true x _ h
 
 pub in-limit : (c : Named) (x : ℕ) → inRange (address c .class) x ≡ true → x ≤ limit c
 in-limit c x h = in-plain c x (rw (address-in c (reached c (is-cell _ x h))) at h)

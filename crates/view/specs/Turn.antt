@@ -13,10 +13,11 @@ use Rattle.rules.specs.Sizes.{records, threads, steps, row32, Settings}
 use Rattle.rules.specs.Words.{isGuarded}
 use Rattle.rules.specs.Pc
 use Rattle.rules.specs.Pc.{Pc, pcOf, code}
-use Rattle.rules.specs.Cells.{address, accessed, inRange, unread, noCell}
+use Rattle.rules.specs.Cells.{address, accessed, cellAt, inRange, unread}
+use Rattle.rules.specs.declared.Class.the-variants.{Anything}
 use Rattle.rules.specs.Rows.{rowAt, rowFits, first, idle}
 use Rattle.rules.specs.Places.{accesses, does, ends, damaged, accessOf, followOf, effectOf}
-use Rattle.rules.specs.Step.{Shared, State, Out, out, answer, refused, sizes, fetched, seen, untakenFor, untakenFrom, guardedAt, guardsOf, readBy, judge, judged, lookBy, lookOf, given, takeBy, takeOf, stepIn, stepOf}
+use Rattle.rules.specs.Step.{Shared, State, Out, out, answer, refused, sizes, fetched, seen, untakenFor, untakenFrom, guardsOf, readBy, judge, judged, lookBy, lookOf, given, takeBy, takeOf, stepIn, stepOf}
 use Rattle.rules.specs.declared.Cell.{Cell}
 use Rattle.rules.specs.declared.Row.{Row}
 use Rattle.rules.specs.declared.Seen.{Seen}
@@ -52,9 +53,9 @@ beside p r u =
 -- a store's cell is where the cell is
 unread-fetched : (s : Shared) (c : Cell) → fetched s (unread c) ≡ fetched s c
 unfolding fetched
-unread-fetched s c = go (eqb (c .class) noCell)
+unread-fetched s c = go (inRange (c .class) 0)
   where
-    go : (b : Bool) → fetched s (pick b c (record { table = c .table; at = c .at; class = 0 })) ≡ fetched s c
+    go : (b : Bool) → fetched s (pick b (cellAt (c .table) (c .at) Anything) c) ≡ fetched s c
     go true = refl
     go false = refl
 
@@ -198,7 +199,7 @@ module _ (g : Settings) (s : State) (z : Sized s) (t : ℕ) (ht : t < threads) (
           (pick (eqb n (code Pc.N1)) (pick (eqb u 0) cell.Nothing (cell.Holder u)) cell.Nothing))
 
   look : fits ≡ true → e .number ≢ 29 → Look g (viewOf s) t p R i
-  unfolding viewOf readBy guardedAt
+  unfolding viewOf readBy
   look h nine =
       let a = is-both (rowFits g (s .rows32) t) _ h in
       let b = is-both (inRange (c .class) (i .x)) _ (a .1) in

@@ -8,7 +8,7 @@ use Rattle.base.specs.Pick.{pick}
 use Rattle.rules.specs.Sizes.{records, sources, nodes, threads}
 use Rattle.rules.specs.Words.{plus}
 use Rattle.rules.specs.Cells
-use Rattle.rules.specs.Cells.{cellAt, nothing, aRecord, aNode, anAvailable, aState, aHolder, anything, inRecords, inSources, inNodes}
+use Rattle.rules.specs.Cells.{cellAt, nothing, inRecords, inSources, inNodes}
 use Rattle.rules.specs.Rows.{rowAt}
 use Rattle.rules.specs.Step.{Shared, State, guardsOf, guarded}
 use Rattle.rules.specs.declared.Cell.{Cell}

@@ -13,7 +13,9 @@ use native.Mathlib.Omega.{arith}
 use Rattle.base.specs.Pick.{pick, pick-yes, pick-no}
 use Rattle.rules.specs.Sizes.{records, sources, nodes, threads, words, row32, row64}
 use Rattle.rules.specs.Cells
-use Rattle.rules.specs.Cells.{address, cellAt, nothing, nowhere, noCell, wordOf, aRecord, aNode, anAvailable, aState, aHolder, anything, inRecords, inSources, inNodes, inRange}
+use Rattle.rules.specs.Cells.{address, cellAt, nothing, nowhere, wordOf, inRecords, inSources, inNodes, inRange}
+use Rattle.rules.specs.declared.Class.{Class}
+use Rattle.rules.specs.declared.Class.the-variants.{Anything, ARecord, ANode, AnAvailable, AState, AHolder}
 use Rattle.rules.specs.Step.{Shared, State, shared, sizes, fetched, written}
 use Rattle.rules.specs.declared.Cell.{Cell}
 use Rattle.rules.specs.declared.Row.{Row}
@@ -34,23 +36,23 @@ pub record SizedCells (s : Shared) : Type 0 where
 -- ---- a name that is a cell's has a plain address
 abbrev pub plain : Named → Cell
 plain cell.Nothing = nothing
-plain cell.RecordHead = cellAt Cells.heads 0 aRecord
-plain cell.HeadAvailable = cellAt Cells.heads 1 anAvailable
-plain cell.Shutdown = cellAt Cells.heads 2 aState
-plain (cell.ShardHead k) = cellAt Cells.heads (k + 3) aNode
-plain cell.RecordCount = cellAt Cells.counters 0 anything
-plain cell.Count = cellAt Cells.counters 1 anything
-plain cell.DueTime = cellAt Cells.counters 2 anything
-plain cell.BulkReclaims = cellAt Cells.counters 3 anything
-plain (cell.Hazard r) = cellAt inRecords ((r - 1) * 4 + 0) aNode
-plain (cell.AvailableNext r) = cellAt inRecords ((r - 1) * 4 + 1) aRecord
-plain (cell.RecordNext r) = cellAt inRecords ((r - 1) * 4 + 2) aRecord
-plain (cell.Holder r) = cellAt inRecords ((r - 1) * 4 + 3) aHolder
-plain (cell.Source b) = cellAt inSources ((b - 1) * 1 + 0) aNode
-plain (cell.NodeNext n) = cellAt inNodes ((n - 1) * 2 + 0) aNode
-plain (cell.NodeState n) = cellAt inNodes ((n - 1) * 2 + 1) aState
+plain cell.RecordHead = cellAt Cells.heads 0 ARecord
+plain cell.HeadAvailable = cellAt Cells.heads 1 AnAvailable
+plain cell.Shutdown = cellAt Cells.heads 2 AState
+plain (cell.ShardHead k) = cellAt Cells.heads (k + 3) ANode
+plain cell.RecordCount = cellAt Cells.counters 0 Anything
+plain cell.Count = cellAt Cells.counters 1 Anything
+plain cell.DueTime = cellAt Cells.counters 2 Anything
+plain cell.BulkReclaims = cellAt Cells.counters 3 Anything
+plain (cell.Hazard r) = cellAt inRecords ((r - 1) * 4 + 0) ANode
+plain (cell.AvailableNext r) = cellAt inRecords ((r - 1) * 4 + 1) ARecord
+plain (cell.RecordNext r) = cellAt inRecords ((r - 1) * 4 + 2) ARecord
+plain (cell.Holder r) = cellAt inRecords ((r - 1) * 4 + 3) AHolder
+plain (cell.Source b) = cellAt inSources ((b - 1) * 1 + 0) ANode
+plain (cell.NodeNext n) = cellAt inNodes ((n - 1) * 2 + 0) ANode
+plain (cell.NodeState n) = cellAt inNodes ((n - 1) * 2 + 1) AState
 
-word-in : (table n w id k class : ℕ) → IsId n id → wordOf table n w id k class ≡ cellAt table ((id - 1) * w + k) class
+word-in : (table n w id k : ℕ) (class : Class) → IsId n id → wordOf table n w id k class ≡ cellAt table ((id - 1) * w + k) class
 word-in table n w id k class h = pick-no _ _ _ (ne-eqb id 0 (omega arith)) ∙ pick-no _ _ _ (le-ltb n id (h .1))
 
 pub address-in : (c : Named) → InTable c → address c ≡ plain c
@@ -64,13 +66,13 @@ address-in cell.RecordCount h = refl
 address-in cell.Count h = refl
 address-in cell.DueTime h = refl
 address-in cell.BulkReclaims h = refl
-address-in (cell.Hazard r) h = word-in inRecords records 4 r 0 aNode h
-address-in (cell.AvailableNext r) h = word-in inRecords records 4 r 1 aRecord h
-address-in (cell.RecordNext r) h = word-in inRecords records 4 r 2 aRecord h
-address-in (cell.Holder r) h = word-in inRecords records 4 r 3 aHolder h
-address-in (cell.Source b) h = word-in inSources sources 1 b 0 aNode h
-address-in (cell.NodeNext n) h = word-in inNodes nodes 2 n 0 aNode h
-address-in (cell.NodeState n) h = word-in inNodes nodes 2 n 1 aState h
+address-in (cell.Hazard r) h = word-in inRecords records 4 r 0 ANode h
+address-in (cell.AvailableNext r) h = word-in inRecords records 4 r 1 ARecord h
+address-in (cell.RecordNext r) h = word-in inRecords records 4 r 2 ARecord h
+address-in (cell.Holder r) h = word-in inRecords records 4 r 3 AHolder h
+address-in (cell.Source b) h = word-in inSources sources 1 b 0 ANode h
+address-in (cell.NodeNext n) h = word-in inNodes nodes 2 n 0 ANode h
+address-in (cell.NodeState n) h = word-in inNodes nodes 2 n 1 AState h
 
 -- ---- reading
 module _ (s : Shared) (r : List Row) (q : List (List ℕ)) where

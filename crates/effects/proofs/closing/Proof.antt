@@ -8,5 +8,4 @@ closing-spec =
     tie.close
     (tie.spec
     (λ c κs. search needs)
-    (λ c κs. search needs)
     (λ c. cc))

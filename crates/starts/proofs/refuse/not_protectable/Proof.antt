@@ -1,11 +1,9 @@
 -- `refuse::not_protectable` meets its contract. Assumes nothing.
-use Rattle.rules.specs.Start.{notProtectable}
 use borrow.Author.Needs.{needs}
 use Rattle.starts.proofs.refuse.not_protectable.Statement.{statement}
 use Rattle.starts.proofs.refuse.not_protectable.Tie as tie
 
 pub not-protectable-spec : {M : Type 1} → statement M
-unfolding notProtectable
 not-protectable-spec =
     tie.close
     (tie.spec

@@ -1,11 +1,9 @@
 -- `refuse::not_raw` meets its contract. Assumes nothing.
-use Rattle.rules.specs.Start.{notRaw}
 use borrow.Author.Needs.{needs}
 use Rattle.starts.proofs.refuse.not_raw.Statement.{statement}
 use Rattle.starts.proofs.refuse.not_raw.Tie as tie
 
 pub not-raw-spec : {M : Type 1} → statement M
-unfolding notRaw
 not-raw-spec =
     tie.close
     (tie.spec

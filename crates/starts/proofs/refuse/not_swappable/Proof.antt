@@ -1,11 +1,9 @@
 -- `refuse::not_swappable` meets its contract. Assumes nothing.
-use Rattle.rules.specs.Start.{notSwappable}
 use borrow.Author.Needs.{needs}
 use Rattle.starts.proofs.refuse.not_swappable.Statement.{statement}
 use Rattle.starts.proofs.refuse.not_swappable.Tie as tie
 
 pub not-swappable-spec : {M : Type 1} → statement M
-unfolding notSwappable
 not-swappable-spec =
     tie.close
     (tie.spec

@@ -1,11 +1,9 @@
 -- `refuse::not_tryable` meets its contract. Assumes nothing.
-use Rattle.rules.specs.Start.{notTryable}
 use borrow.Author.Needs.{needs}
 use Rattle.starts.proofs.refuse.not_tryable.Statement.{statement}
 use Rattle.starts.proofs.refuse.not_tryable.Tie as tie
 
 pub not-tryable-spec : {M : Type 1} → statement M
-unfolding notTryable
 not-tryable-spec =
     tie.close
     (tie.spec
