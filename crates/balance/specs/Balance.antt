@@ -1,25 +1,24 @@
 -- The balance of `count`: what is counted and what the threads owe is what waits; and who has yet to look at a count that is too high.
 use mathlib.Core.Path.{_≡_, refl, sym, ap, _∙_, subst}
 use mathlib.Core.Logic.{_≢_, _⊎_, inl, inr}
-use mathlib.Core.Bool.{Bool, true, false}
+use mathlib.Core.Bool.{false}
 use mathlib.Core.List.{List, [], _∷_}
-use Prim.Native.Nat.{ℕ, zero, suc, _+_, _*_, _-_, _%_, _/_, _^_, _≤_, _<_, max}
+use Prim.Native.Nat.{ℕ, _+_, _*_, _-_, _^_, _≤_, _<_, max}
 use native.Mathlib.Decide.{ℕ-discrete, decLt}
 use native.Mathlib.Omega.{arith}
-use lib.Dec.{eqb, ltb}
+use lib.Dec.{eqb}
 use lib.ListN.{length, getD, set, length-set}
 use lib.Seq.{getD-set-same, getD-set-other}
-use borrow.Author.Tests.{eqb-true, eqb-false, ltb-false, le-ltb}
-use Rattle.base.specs.Pick.{pick}
+use borrow.Author.Tests.{eqb-true, ltb-false, le-ltb}
 use Rattle.rules.specs.Sizes.{steps, nodes, Settings}
-use Rattle.rules.specs.Words.{plus, less, over, negative, threshold}
+use Rattle.rules.specs.Words.{plus, over, threshold}
 use Rattle.rules.specs.Pc
 use Rattle.rules.specs.Pc.{Pc, pcOf, code}
-use Rattle.rules.specs.Rows.{idle, goTo, inShard, shardIn, stolenFrom}
-use Rattle.rules.specs.Places.{newPass, checked, passed, emptied, examineFrom, examined, reclaimed}
+use Rattle.rules.specs.Rows.{idle, shardIn, stolenFrom}
+use Rattle.rules.specs.Places.{checked, passed, emptied, examineFrom, examined, reclaimed}
 use Rattle.rules.specs.declared.Row.{Row}
 use Rattle.counts.specs.CountLaws.{over-plain, negative-not-over}
-use Rattle.lists.specs.Occ.{eq01, eq01-le, sum, sum-set}
+use Rattle.lists.specs.Occ.{eq01, sum, sum-set}
 use Rattle.view.specs.View.{View}
 use Rattle.view.specs.Every.{pc-is, classed, pick-all, pick-case}
 

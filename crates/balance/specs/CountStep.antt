@@ -1,26 +1,25 @@
 -- Every step and every start keeps the balance of `count`, and the bound.
 use mathlib.Core.Path.{_≡_, refl, sym, ap, _∙_, subst}
 use mathlib.Core.Logic.{_≢_, _⊎_, inl, inr}
-use mathlib.Core.Bool.{Bool, true, false}
+use mathlib.Core.Bool.{Bool, false}
 use mathlib.Core.List.{List, [], _∷_}
-use Prim.Native.Nat.{ℕ, zero, suc, _+_, _*_, _-_, _%_, _/_, _^_, _≤_, _<_, max}
+use Prim.Native.Nat.{ℕ, suc, _+_, _*_, _-_, _/_, _≤_, _<_, max}
 use native.Mathlib.Decide.{ℕ-discrete}
 use native.Mathlib.Omega.{arith}
 use lib.Dec.{eqb}
 use lib.ListN.{length, getD, set, length-set}
-use lib.Seq.{getD-set-same, getD-set-other}
+use lib.Seq.{getD-set-other}
 use borrow.Author.Tests.{eqb-true, eqb-false, ltb-false}
 use Rattle.base.specs.Pick.{pick}
 use Rattle.rules.specs.Sizes.{steps, nodes, threads, Settings}
-use Rattle.rules.specs.Words.{plus, less, over, locked, dueTime}
+use Rattle.rules.specs.Words.{plus, over}
 use Rattle.rules.specs.Pc
 use Rattle.rules.specs.Pc.{Pc, pcOf, code}
-use Rattle.rules.specs.Rows
-use Rattle.rules.specs.Rows.{idle, goTo, inShard, shardIn, stealing, stolenFrom, taking, counting, withDone, keeping, freeing, reclaiming}
-use Rattle.rules.specs.Places.{accesses, does, ends, becomes, stores, also, done, reclaims, checked, passed, reclaimed}
+use Rattle.rules.specs.Rows.{idle, goTo, taking, counting, freeing, reclaiming}
+use Rattle.rules.specs.Places.{accesses, does, ends, becomes, stores, checked, reclaimed}
 use Rattle.rules.specs.Start.{begins, narrow, freshAt}
 use Rattle.rules.specs.declared.Operation.{Operation}
-use Rattle.rules.specs.declared.Operation.the-variants.{Acquire, Release, Protect, Try, TryProtect, Reset, Raw, Swap, Retire, Eager, Cleanup, Shutdown}
+use Rattle.rules.specs.declared.Operation.the-variants.{Swap, Retire, Shutdown}
 use Rattle.rules.specs.declared.Row.{Row}
 use Rattle.rules.specs.declared.Seen.{Seen}
 use Rattle.rules.specs.declared.Effect.{Effect}
@@ -31,12 +30,12 @@ use Rattle.view.specs.View.{View, InTable, named, get, applies, enters}
 use Rattle.view.specs.Ranges.{limit}
 use Rattle.view.specs.Every.{pc-is, every, every-start, two, At, thus, thence, either, pick-all, pick-case}
 use Rattle.view.specs.Long.{Long}
-use Rattle.view.specs.Rest.{all-passed, all-shut}
+use Rattle.view.specs.Rest.{all-shut}
 use Rattle.view.specs.Turn.{rowIn, Look}
 use Rattle.view.specs.Begin.{Admitted}
-use Rattle.shutdown.specs.Zone.{ZoneIn, Shut, Open, side, mark-open, all-shut-rows}
+use Rattle.shutdown.specs.Zone.{ZoneIn, Shut, side, mark-open, all-shut-rows}
 use Rattle.balance.specs.Balance
-use Rattle.balance.specs.Balance.{Owe, owe, owesOf, owes, waiting, M, Balance, LooksOf, Looks, Low, CountAt, CountIn, over-none, owes-passed, owes-checked, owes-emptied, owes-from, owes-examined, owes-reclaimed}
+use Rattle.balance.specs.Balance.{owe, owesOf, owes, waiting, M, Balance, LooksOf, Looks, Low, CountAt, CountIn, over-none, owes-passed, owes-checked, owes-emptied, owes-from, owes-examined, owes-reclaimed}
 
 module _ (g : Settings) (v : View) (I : CountIn g v) (Z : ZoneIn v) (lv : Long v) (t : ℕ) (ht : t < length (v .rows)) (hk : v .counters .ticks < steps) where
   abbrev r : Row

@@ -1,24 +1,22 @@
 -- `nbulk_reclaims` is the number of threads between B1 and C3.
 use mathlib.Core.Path.{_≡_, refl, sym, ap, _∙_, subst}
-use mathlib.Core.Logic.{_≢_, _⊎_, inl, inr}
-use mathlib.Core.Bool.{Bool, true, false}
+use mathlib.Core.Logic.{_⊎_, inl, inr}
+use mathlib.Core.Bool.{false}
 use mathlib.Core.List.{List, [], _∷_}
-use Prim.Native.Nat.{ℕ, zero, suc, _+_, _*_, _-_, _%_, _≤_, _<_, min}
+use Prim.Native.Nat.{ℕ, _+_, _≤_, _<_, min}
 use native.Mathlib.Omega.{arith}
 use lib.Dec.{eqb}
 use lib.ListN.{length, getD, set}
 use borrow.Author.Tests.{eqb-true, eqb-false}
-use Rattle.base.specs.Pick.{pick}
 use Rattle.rules.specs.Sizes.{threads, Settings}
-use Rattle.rules.specs.Words.{plus, less, over, locked}
+use Rattle.rules.specs.Words.{plus, less}
 use Rattle.rules.specs.Pc
 use Rattle.rules.specs.Pc.{Pc, pcOf, code}
-use Rattle.rules.specs.Rows
-use Rattle.rules.specs.Rows.{idle, goTo, inShard, shardIn, stealing, stolenFrom, taking, withDone, keeping}
+use Rattle.rules.specs.Rows.{idle, goTo, inShard, taking}
 use Rattle.rules.specs.Places.{accesses, does, ends, checked, passed, emptied}
 use Rattle.rules.specs.Start.{begins}
 use Rattle.rules.specs.declared.Operation.{Operation}
-use Rattle.rules.specs.declared.Operation.the-variants.{Acquire, Release, Protect, Try, TryProtect, Reset, Raw, Swap, Retire, Eager, Cleanup, Shutdown}
+use Rattle.rules.specs.declared.Operation.the-variants.{Swap}
 use Rattle.rules.specs.declared.Row.{Row}
 use Rattle.rules.specs.declared.Seen.{Seen}
 use Rattle.rules.specs.declared.Effect.{Effect}
@@ -29,7 +27,6 @@ use Rattle.view.specs.View.{View, named, applies, enters}
 use Rattle.view.specs.Every.{pc-is, classed, every, every-start, two, At, thus, thence, either, pick-all, pick-case}
 use Rattle.view.specs.Rest.{all-from, all-examined, all-reclaimed, all-shut}
 use Rattle.view.specs.Turn.{rowIn, Look}
-use Rattle.view.specs.Begin.{Admitted}
 
 -- ---- where a thread stands to a pass: before it `done` is 0, towards its end it is not; a Check is inside a pass where the row has a `done`
 pub data Bulk : Type 0 where

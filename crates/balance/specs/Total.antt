@@ -1,22 +1,16 @@
 -- What a row has reclaimed in all is within the steps counted: each reclaim is a step.
-use mathlib.Core.Path.{_≡_, refl, subst}
+use mathlib.Core.Path.{_≡_}
 use mathlib.Core.List.{List}
-use mathlib.Core.Bool.{Bool}
-use Rattle.base.specs.Pick.{pick}
-use Prim.Native.Nat.{ℕ, _+_, _*_, _%_, _≤_, _<_}
+use Prim.Native.Nat.{ℕ, _+_, _≤_, _<_}
 use native.Mathlib.Omega.{arith}
-use lib.Dec.{eqb}
 use lib.ListN.{length, getD, set}
 use Rattle.rules.specs.Sizes.{steps, Settings}
-use Rattle.rules.specs.Words.{plus, over, locked}
-use Rattle.rules.specs.Pc
+use Rattle.rules.specs.Words.{plus}
 use Rattle.rules.specs.Pc.{Pc}
-use Rattle.rules.specs.Rows
-use Rattle.rules.specs.Rows.{idle, inShard, shardIn, stealing, stolenFrom}
+use Rattle.rules.specs.Rows.{idle}
 use Rattle.rules.specs.Places.{accesses, does, ends}
 use Rattle.rules.specs.Start.{begins}
 use Rattle.rules.specs.declared.Operation.{Operation}
-use Rattle.rules.specs.declared.Operation.the-variants.{Acquire, Release, Protect, Try, TryProtect, Reset, Raw, Swap, Retire, Eager, Cleanup, Shutdown}
 use Rattle.rules.specs.declared.Row.{Row}
 use Rattle.rules.specs.declared.Seen.{Seen}
 use Rattle.rules.specs.declared.Effect.{Effect}
@@ -24,7 +18,7 @@ use Rattle.rules.specs.declared.Named.the-variants as cell
 use Rattle.lists.specs.Each.{each-set}
 use Rattle.view.specs.View.{View, named, applies, enters}
 use Rattle.view.specs.Rest.{all-passed, all-checked, all-emptied, all-from, all-examined, all-reclaimed, all-shut}
-use Rattle.view.specs.Turn.{rowIn, Look}
+use Rattle.view.specs.Turn.{rowIn}
 use Rattle.view.specs.Every.{every, every-start, two, At, thence, either, pick-all}
 
 abbrev pub TotalAt : ℕ → List Row → Type 0

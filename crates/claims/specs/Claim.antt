@@ -1,16 +1,16 @@
 -- The layer of claims: what a validated protection of a node says, what a scan has seen, and that no claimed node is on a reclaim list.
-use mathlib.Core.Path.{_≡_, refl, sym, ap, _∙_, subst}
+use mathlib.Core.Path.{_≡_, subst}
 use mathlib.Core.Logic.{_≢_, _⊎_, inl, inr}
-use mathlib.Core.Bool.{Bool, true, false}
+use mathlib.Core.Bool.{true}
 use mathlib.Core.List.{List, [], _∷_}
-use Prim.Native.Nat.{ℕ, suc, _+_, _≤_, _<_}
+use Prim.Native.Nat.{ℕ, _≤_, _<_}
 use native.Mathlib.Decide.{ℕ-discrete}
 use native.Mathlib.Omega.{arith}
 use lib.ListN.{length, getD, set, length-set}
-use lib.Seq.{getD-set-same, getD-set-other}
+use lib.Seq.{getD-set-other}
 use Rattle.rules.specs.Words.{isGuarded}
 use Rattle.rules.specs.Pc
-use Rattle.rules.specs.Pc.{Pc, pcOf, code}
+use Rattle.rules.specs.Pc.{Pc, pcOf}
 use Rattle.rules.specs.Rows.{idle}
 use Rattle.rules.specs.declared.Row.{Row}
 use Rattle.lists.specs.Occ.{occ}

@@ -3,35 +3,34 @@ use mathlib.Core.Path.{_≡_, refl, sym, ap, _∙_, subst}
 use mathlib.Core.Logic.{_≢_, _⊎_, inl, inr}
 use mathlib.Core.Bool.{Bool, true, false, true≢false}
 use mathlib.Core.List.{List, [], _∷_}
-use Prim.Native.Nat.{ℕ, zero, suc, _+_, _*_, _-_, _%_, _/_, _≤_, _<_, min}
+use Prim.Native.Nat.{ℕ, zero, suc, _+_, _*_, _-_, _≤_, _<_, min}
 use native.Mathlib.Decide.{ℕ-discrete, decLe}
 use native.Mathlib.Omega.{arith}
-use lib.Dec.{eqb, ltb}
-use lib.ListN.{length, getD, set, replicate, length-set, length-replicate, List·getD-eq-default}
+use lib.Dec.{eqb}
+use lib.ListN.{length, getD, set, length-set, length-replicate, List·getD-eq-default}
 use lib.Seq.{getD-set-same, getD-set-other, set-getD}
-use borrow.Author.Tests.{eqb-true, eqb-false, ne-eqb}
+use borrow.Author.Tests.{eqb-true, eqb-false}
 use Rattle.base.specs.Pick.{pick}
 use Rattle.rules.specs.Sizes.{records, nodes, words, threads, Settings}
-use Rattle.rules.specs.Words.{locked, over, isGuarded, dueTime}
+use Rattle.rules.specs.Words.{over, isGuarded}
 use Rattle.rules.specs.Pc
 use Rattle.rules.specs.Pc.{Pc, pcOf, code}
 use Rattle.rules.specs.Rows
-use Rattle.rules.specs.Rows.{idle, inShard, shardIn, stealing, stolenFrom, goTo, first}
-use Rattle.rules.specs.Places.{accesses, does, ends, becomes, stores, also, done, retry, reclaims, guarding, clearsGuards}
+use Rattle.rules.specs.Rows.{idle, inShard, shardIn, stealing, goTo, first}
+use Rattle.rules.specs.Places.{accesses, does, ends, becomes, stores, also, done, reclaims, guarding, clearsGuards}
 use Rattle.rules.specs.Step.{guarded}
 use Rattle.rules.specs.Start.{begins, narrow, freshAt}
 use Rattle.rules.specs.declared.Operation.{Operation}
-use Rattle.rules.specs.declared.Operation.the-variants.{Acquire, Release, Protect, Try, TryProtect, Reset, Raw, Swap, Retire, Eager, Cleanup, Shutdown}
+use Rattle.rules.specs.declared.Operation.the-variants.{Reset, Raw, Swap, Retire, Shutdown}
 use Rattle.rules.specs.declared.Row.{Row}
 use Rattle.rules.specs.declared.Seen.{Seen}
 use Rattle.rules.specs.declared.Effect.{Effect}
 use Rattle.rules.specs.declared.Guards.the-variants as guards
 use Rattle.rules.specs.declared.Named.the-variants as cell
 use Rattle.bits.specs.BitLaws.{guarded-also, guarded-kept}
-use Rattle.lists.specs.Occ.{occ, eq01, eq01-same, eq01-other, eq01-cases, sum, sum-at}
+use Rattle.lists.specs.Occ.{occ, eq01, eq01-same, eq01-cases, sum, sum-at}
 use Rattle.lists.specs.Chain.{Seg, seg-head, seg-unique, seg-frame, seg-push}
 use Rattle.lists.specs.Heap
-use Rattle.lists.specs.Tab.{zeros}
 use Rattle.lists.specs.Each.{each-set}
 use Rattle.view.specs.Field.{IsId, cleared}
 use Rattle.view.specs.Ranges.{limit}
@@ -42,12 +41,12 @@ use Rattle.view.specs.Rest.{all-passed, all-checked, all-emptied, all-from, all
 use Rattle.view.specs.Turn.{rowIn, Look, sees}
 use Rattle.view.specs.Begin.{Admitted, Owned}
 use Rattle.heap.specs.Hooks.{hooks, slot, alone, slot-slot, loose, hv, toReclaim, slot-in, get-slot, loose-tight, get-stolen, get-reclaim}
-use Rattle.heap.specs.Stage.{Allowed, HeapIn, Others, others-none, others-one, shape-eight, stage}
+use Rattle.heap.specs.Stage.{HeapIn, others-none, others-one, shape-eight, stage}
 use Rattle.heap.specs.HeapStep.{Next, grabs, gains, begunLists}
 use Rattle.records.specs.Hold
-use Rattle.records.specs.Hold.{Hold, hold, has, hasOf, off, offOf, used, KnowOf, RecordsIn}
+use Rattle.records.specs.Hold.{Hold, hold, has, hasOf, off, offOf, KnowOf, RecordsIn}
 use Rattle.records.specs.RecordMoves
-use Rattle.shutdown.specs.Zone.{Side, side, Shut, Open, ShutRow, ZoneIn, all-shut-rows, mark-open}
+use Rattle.shutdown.specs.Zone.{side, Shut, Open, ShutRow, ZoneIn, all-shut-rows, mark-open}
 use Rattle.claims.specs.Claim
 use Rattle.claims.specs.Claim.{Claim, Stolen, Guarded, Scan, scan, Part, SafeOf, Safe, ValOf, Val, Keeper, Held, ClaimsAt, ClaimsIn, safe-less, stolen-other, keeper-set}
 

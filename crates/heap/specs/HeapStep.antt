@@ -1,28 +1,26 @@
 -- Every step keeps the heap layer: where each waiting node stands.
-use mathlib.Core.Path.{_≡_, refl, sym, ap, ap₂, _∙_, subst}
+use mathlib.Core.Path.{_≡_, refl, sym, ap, _∙_, subst}
 use mathlib.Core.Logic.{_≢_, _⊎_, inl, inr}
-use mathlib.Core.Bool.{Bool, true, false}
+use mathlib.Core.Bool.{Bool, false}
 use mathlib.Core.List.{List, [], _∷_, _++_}
-use Prim.Native.Nat.{ℕ, zero, suc, _+_, _*_, _-_, _%_, _≤_, _<_}
+use Prim.Native.Nat.{ℕ, suc, _+_, _≤_, _<_}
 use native.Mathlib.Decide.{ℕ-discrete, decLe}
 use native.Mathlib.Omega.{arith}
-use lib.Dec.{eqb, ltb}
-use lib.ListN.{length, getD, set, length-set, List·getD-eq-default}
+use lib.Dec.{eqb}
+use lib.ListN.{length, getD, set, length-set}
 use lib.Seq.{getD-set-same, getD-set-other, set-out}
 use borrow.Author.Tests.{eqb-true, eqb-false}
 use Rattle.base.specs.Pick.{pick}
 use Rattle.rules.specs.Sizes.{nodes, Settings}
-use Rattle.rules.specs.Words.{locked, over}
 use Rattle.rules.specs.Pc
 use Rattle.rules.specs.Pc.{Pc, pcOf, code}
 use Rattle.rules.specs.Rows
-use Rattle.rules.specs.Rows.{idle, goTo, inShard, seeing, withLone, keeping, reclaiming, withDone, stealing, freeing, freed, taking, shardIn, first, stolenFrom}
+use Rattle.rules.specs.Rows.{idle, goTo, inShard, seeing, withLone, keeping, reclaiming, withDone, stealing, freeing, freed, shardIn, first, stolenFrom}
 use Rattle.rules.specs.Places
 use Rattle.rules.specs.Places.{checked, accesses, does, ends, becomes, stores, also, done, reclaims, passed, emptied, examined, reclaimed, shutNext}
 use Rattle.rules.specs.declared.Row.{Row}
 use Rattle.rules.specs.declared.Seen.{Seen}
 use Rattle.rules.specs.declared.Effect.{Effect}
-use Rattle.rules.specs.declared.Named.{Named}
 use Rattle.rules.specs.declared.Named.the-variants as cell
 use Rattle.rules.specs.Words.{shardOf}
 use Rattle.rules.specs.Start.{begins, narrow, freshAt}
@@ -31,7 +29,7 @@ use Rattle.rules.specs.declared.Operation.the-variants.{Acquire, Release, Prote
 use Rattle.lists.specs.Tab.{zeros}
 use Rattle.view.specs.View.{enters}
 use Rattle.view.specs.Begin.{Admitted}
-use Rattle.lists.specs.Occ.{occ, eq01, eq01-same, eq01-other, eq01-le}
+use Rattle.lists.specs.Occ.{occ, eq01, eq01-other}
 use Rattle.lists.specs.Chain
 use Rattle.lists.specs.Heap
 use Rattle.lists.specs.Heap.{Heap, waits}
@@ -41,7 +39,7 @@ use Rattle.view.specs.Every.{pc-is, every, every-start, two, At, thus, either, 
 use Rattle.view.specs.Turn.{rowIn, Look, sees}
 use Rattle.heap.specs.Hooks.{hooks, slot, loose, hv, toReclaim, toKeep, alone, slot-slot, slot-shard, shard-in, hook-stolen, hook-reclaim, hook-keep, hook-alone, get-stolen, get-reclaim, get-keep, get-alone}
 use Rattle.heap.specs.Stage
-use Rattle.heap.specs.Stage.{Stage, stage, Allowed, null, some, any, ShapeAt, Is, ShapeOf, Shape, EndsAt, Ends, HeapAt, HeapIn, Others, others-none, others-one, others-two}
+use Rattle.heap.specs.Stage.{Stage, stage, Allowed, null, some, any, Is, ShapeOf, Shape, HeapAt, HeapIn, Others, others-none, others-one, others-two}
 use Rattle.heap.specs.Moves
 use Rattle.heap.specs.Moves.{Moved, Freed}
 use Rattle.heap.specs.Onward.{Seated, found, shaped, seat-passed, seat-checked, seat-shut, seat-emptied, seat-from, seat-examined, seat-reclaimed, idle-hooks, idle-clean}

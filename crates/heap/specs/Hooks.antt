@@ -6,8 +6,8 @@ use mathlib.Core.List.{List, [], _∷_, _++_, map}
 use Prim.Native.Nat.{ℕ, _+_, _*_, _-_, _%_, _≤_, _<_}
 use native.Mathlib.Omega.{arith}
 use lib.Dec.{T, leb, le→leb, leb→le}
-use lib.ListN.{length, getD, set, length-set, length-append, length-map, List·getD-append}
-use lib.Seq.{getD-set-same, set-append-left, set-set, set-getD, getD-append-add}
+use lib.ListN.{length, getD, set, length-append, length-map, List·getD-append}
+use lib.Seq.{set-append-left, set-getD, getD-append-add}
 use Rattle.rules.specs.Rows.{idle}
 use Rattle.rules.specs.declared.Row.{Row}
 use Rattle.lists.specs.Flat.{cat, Rows, rows-set, rows-get, cat-length, cat-get, cat-set, cat-set2, set-append-add, map-set, map-get}

@@ -1,23 +1,21 @@
 -- The heap layer over the tables: every step and every start leaves each waiting node in exactly one list.
-use mathlib.Core.Path.{_≡_, refl, sym, ap, _∙_, subst}
 use mathlib.Core.Bool.{Bool}
 use mathlib.Core.List.{List}
-use Prim.Native.Nat.{ℕ, suc, _<_}
-use native.Mathlib.Omega.{arith}
+use Prim.Native.Nat.{ℕ, _<_}
 use lib.ListN.{length}
-use Rattle.rules.specs.Sizes.{nodes, threads, Settings}
+use Rattle.rules.specs.Sizes.{threads, Settings}
 use Rattle.rules.specs.Words.{shardOf}
 use Rattle.rules.specs.Step.{State, Out, stepOf}
 use Rattle.rules.specs.Start.{startOf}
 use Rattle.rules.specs.declared.Operation.{Operation}
-use Rattle.view.specs.View.{View, viewOf}
+use Rattle.view.specs.View.{viewOf}
 use Rattle.view.specs.Long.{long}
 use Rattle.view.specs.Turn
 use Rattle.view.specs.Turn.{Turn, step-turn}
 use Rattle.view.specs.Begin
 use Rattle.view.specs.Begin.{Begin, start-begin}
 use Rattle.heap.specs.Stage.{Allowed, HeapIn}
-use Rattle.heap.specs.HeapStep.{Next, heap-place, heap-ends, heap-begin, begunLists}
+use Rattle.heap.specs.HeapStep.{heap-place, heap-ends, heap-begin, begunLists}
 
 abbrev pub Heaped : Settings → State → Type 0
 Heaped g s = (ls : List (List ℕ)) × HeapIn g (viewOf s) ls

@@ -1,27 +1,24 @@
 -- How the lists move: each transition of the heap as thread t's row becomes r′, whatever else r′ changes.
-use mathlib.Core.Path.{_≡_, refl, sym, ap, ap₂, _∙_, subst, subst₂}
-use mathlib.Core.Logic.{_≢_, _⊎_, inl, inr}
-use mathlib.Core.Bool.{Bool, true, false, not}
-use mathlib.Core.List.{List, [], _∷_, _++_, map}
-use Prim.Native.Nat.{ℕ, zero, suc, _+_, _*_, _-_, _≤_, _<_}
-use native.Mathlib.Decide.{ℕ-discrete}
+use mathlib.Core.Path.{_≡_, refl, sym, ap, _∙_, subst, subst₂}
+use mathlib.Core.Logic.{_≢_, inl, inr}
+use mathlib.Core.Bool.{Bool, true, false}
+use mathlib.Core.List.{List, [], _∷_, _++_}
+use Prim.Native.Nat.{ℕ, _≤_, _<_}
 use native.Mathlib.Omega.{arith}
-use lib.Dec.{T, eqb}
+use lib.Dec.{eqb}
 use lib.ListN.{length, getD, set, length-set}
-use lib.Seq.{getD-set-same, getD-set-other}
 use borrow.Author.Tests.{eqb-true, eqb-false}
 use Rattle.base.specs.Pick.{pick}
 use Rattle.rules.specs.Sizes.{Settings}
 use Rattle.rules.specs.Pc.{pcOf}
 use Rattle.rules.specs.Rows.{idle}
 use Rattle.rules.specs.declared.Row.{Row}
-use Rattle.lists.specs.Occ.{occ}
-use Rattle.lists.specs.Chain.{Seg, last}
+use Rattle.lists.specs.Chain.{last}
 use Rattle.lists.specs.Each.{each-set}
 use Rattle.lists.specs.Heap
 use Rattle.lists.specs.Heap.{Heap, Loose, waits}
 use Rattle.heap.specs.Hooks.{hooks, slot, loose, hv, toReclaim, toKeep, alone, loose-shard, loose-tight, loose-loose, slot-slot, slot-shard, slot-in, shard-in, get-slot, get-shard, set-slot, set-slot2, set-shard, set-none, rows-put, get-keep}
-use Rattle.heap.specs.Stage.{stage, Shape, shape-eight, EndsAt, Ends, HeapAt, Others, others-none, others-one, others-two, hooks-eight}
+use Rattle.heap.specs.Stage.{stage, Shape, shape-eight, Ends, HeapAt, Others, others-none, others-one, others-two, hooks-eight}
 
 module _ (g : Settings) (next st sh : List ℕ) (rows : List Row) (ls : List (List ℕ)) (I : HeapAt g next st sh rows ls) (t : ℕ) (ht : t < length rows) where
   abbrev r : Row

@@ -1,19 +1,19 @@
 -- Where a pass goes on: what the words of the rules for it make of a row that holds its lists as it should.
-use mathlib.Core.Path.{_≡_, refl, sym, ap, _∙_, subst}
+use mathlib.Core.Path.{_≡_, refl, sym, _∙_, subst}
 use mathlib.Core.Logic.{_≢_, _⊎_, inl, inr}
 use mathlib.Core.Bool.{Bool, true, false}
 use mathlib.Core.List.{List, [], _∷_, _++_}
-use Prim.Native.Nat.{ℕ, zero, suc, _+_, _-_, _%_, _≤_, _<_}
+use Prim.Native.Nat.{ℕ, zero, suc, _+_, _-_, _≤_, _<_}
 use native.Mathlib.Decide.{ℕ-discrete, decLt, decLe}
 use native.Mathlib.Omega.{arith}
 use lib.Dec.{eqb}
-use lib.ListN.{length, getD, set, replicate}
+use lib.ListN.{getD}
 use lib.Seq.{ext-getD}
 use borrow.Author.Tests.{eqb-true, eqb-false}
 use Rattle.base.specs.Pick.{pick}
 use Rattle.rules.specs.Sizes.{Settings}
 use Rattle.rules.specs.Pc
-use Rattle.rules.specs.Pc.{Pc, pcOf, code}
+use Rattle.rules.specs.Pc.{Pc, code}
 use Rattle.rules.specs.Rows.{idle, goTo, inShard, shardIn, stolenFrom}
 use Rattle.rules.specs.Places.{newPass, checked, passed, emptied, examineAt, examineFrom, examined, reclaimed, shutNext}
 use Rattle.rules.specs.declared.Row.{Row}
@@ -21,7 +21,7 @@ use Rattle.lists.specs.Tab.{zeros}
 use Rattle.view.specs.Every.{pc-is, pick-all, pick-case}
 use Rattle.heap.specs.Hooks.{hooks}
 use Rattle.heap.specs.Stage
-use Rattle.heap.specs.Stage.{Stage, stage, Allowed, Want, null, some, any, Holds, ShapeAt, Is, ShapeOf, Shape}
+use Rattle.heap.specs.Stage.{Stage, stage, Allowed, null, some, any, Is, ShapeOf, Shape}
 
 -- the row x holds r's lists, and is as its place asks
 pub record Seated (g : Settings) (r x : Row) : Type 0 where

@@ -1,14 +1,13 @@
 -- What a thread's row holds at each place, as far as its lists go, and the layer of the invariant that says where each waiting node stands.
-use mathlib.Core.Path.{_≡_, refl, sym, ap, _∙_, subst}
+use mathlib.Core.Path.{_≡_, refl, ap, _∙_}
 use mathlib.Core.Logic.{_≢_, _⊎_, inl, inr}
-use mathlib.Core.List.{List, [], _∷_, _++_, map}
+use mathlib.Core.List.{List, [], _∷_, map}
 use Prim.Native.Nat.{ℕ, _+_, _≤_, _<_}
-use native.Mathlib.Omega.{arith}
-use lib.ListN.{length, getD, set, length-set, length-append}
-use lib.Seq.{getD-set-same, getD-set-other}
+use lib.ListN.{length, getD, set, length-append}
+use lib.Seq.{getD-set-other}
 use Rattle.rules.specs.Sizes.{Settings}
 use Rattle.rules.specs.Pc
-use Rattle.rules.specs.Pc.{Pc, pcOf, code}
+use Rattle.rules.specs.Pc.{Pc, pcOf}
 use Rattle.rules.specs.Rows.{idle}
 use Rattle.rules.specs.declared.Row.{Row}
 use Rattle.lists.specs.Chain.{last}
@@ -16,7 +15,7 @@ use Rattle.lists.specs.Flat.{Rows}
 use Rattle.lists.specs.Heap.{Heap}
 use Rattle.view.specs.View.{View}
 use Rattle.view.specs.Every.{classed}
-use Rattle.heap.specs.Hooks.{hooks, slot, loose, hv, toReclaim, toKeep, alone, slot-shard, slot-thread}
+use Rattle.heap.specs.Hooks.{hooks, slot, loose, hv, toKeep, alone, slot-shard, slot-thread}
 
 -- settings that document 02 may choose
 pub record Allowed (g : Settings) : Type 0 where

@@ -1,12 +1,11 @@
 -- Demand 3, the bound.
-use mathlib.Core.Path.{_≡_, refl, sym, ap, _∙_}
-use Prim.Native.Nat.{ℕ, _≤_, _<_}
-use lib.ListN.{length}
+use mathlib.Core.Path.{ap, _∙_}
+use Prim.Native.Nat.{_<_}
 use Rattle.rules.specs.Sizes.{threads, Settings}
 use Rattle.rules.specs.declared.Row.{Row}
 use Rattle.view.specs.View.{viewOf}
 use Rattle.view.specs.Long.{long}
-use Rattle.view.specs.Turn.{rowIn, row-view}
+use Rattle.view.specs.Turn.{row-view}
 use Rattle.balance.specs.CountStep.{few}
 use Rattle.history.specs.Demand3.{Bound}
 use Rattle.history.specs.Seen.{waiting-is, count-is}

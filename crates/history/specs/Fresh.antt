@@ -1,14 +1,13 @@
 -- A fresh domain meets every layer of the invariant.
-use Prim.Native.Nat.{ℕ, zero, suc, _+_, _*_, _-_, _≤_, _<_}
-use mathlib.Core.Path.{_≡_, refl, sym, ap, ap₂, _∙_, subst, subst₂}
-use mathlib.Core.Logic.{_≢_, _⊎_, inl, inr}
-use mathlib.Core.List.{List, [], _∷_, _++_, map}
-use native.Mathlib.Decide.{decLt}
+use Prim.Native.Nat.{ℕ, zero, suc, _+_, _*_, _≤_}
+use mathlib.Core.Path.{_≡_, refl, sym, ap, _∙_, subst, subst₂}
+use mathlib.Core.Logic.{inl}
+use mathlib.Core.List.{List, [], _∷_, map}
 use native.Mathlib.Omega.{arith}
-use lib.ListN.{length, getD, replicate, take, drop, length-replicate, getD-replicate, List·getD-eq-default}
+use lib.ListN.{getD, replicate, length-replicate}
 use Rattle.rules.specs.Sizes.{records, sources, nodes, threads, words, row32, row64, Settings}
 use Rattle.rules.specs.Rows.{idle, rowAt}
-use Rattle.rules.specs.Step.{State, guardsOf}
+use Rattle.rules.specs.Step.{guardsOf}
 use Rattle.rules.specs.declared.Row.{Row}
 use Rattle.lists.specs.Occ.{occ, eq01, eq01-other, sum}
 use Rattle.lists.specs.Flat.{Rows}
@@ -17,15 +16,15 @@ use Rattle.lists.specs.Tab.{tab, tab-ext, tab-same, zeros}
 use Rattle.view.specs.Field.{field}
 use Rattle.view.specs.View.{View, viewOf, shardHeads}
 use Rattle.view.specs.Given.{Sized}
-use Rattle.heap.specs.Hooks.{hooks, hv, loose, slot}
-use Rattle.heap.specs.Stage.{HeapAt, HeapIn, Shape, Ends}
+use Rattle.heap.specs.Hooks.{hooks, hv, loose}
+use Rattle.heap.specs.Stage.{HeapIn, Shape, Ends}
 use Rattle.records.specs.Hold.{RecordsIn, Know, has, lock, off}
 use Rattle.shutdown.specs.Zone.{ZoneIn, OpenRow}
 use Rattle.balance.specs.Balance.{CountIn, M, waiting, owes, over-none}
 use Rattle.balance.specs.Tally.{TallyIn, Done, inside}
 use Rattle.balance.specs.Total.{TotalIn}
 use Rattle.balance.specs.Swing.{SwingIn, swing, size-0}
-use Rattle.claims.specs.Claim.{Claim, ClaimsIn, Val, Safe}
+use Rattle.claims.specs.Claim.{ClaimsIn, Val, Safe}
 use Rattle.ranges.specs.Range.{Below, Fit, Ranges}
 use Rattle.history.specs.Demand3.{fresh}
 

@@ -1,38 +1,34 @@
 -- The invariant of every run: the layers together, on the state and on its history.
-use mathlib.Core.Path.{_≡_, refl, sym, ap, ap₂, _∙_, subst}
+use mathlib.Core.Path.{_≡_, refl, sym, ap, _∙_, subst}
 use mathlib.Core.Logic.{_≢_, _⊎_, inl, inr}
-use mathlib.Core.Bool.{Bool, true, false}
 use mathlib.Core.List.{List, [], _∷_}
-use Prim.Native.Nat.{ℕ, zero, suc, _+_, _*_, _%_, _^_, _≤_, _<_}
+use Prim.Native.Nat.{ℕ, zero, suc, _+_, _^_, _≤_, _<_}
 use native.Mathlib.Decide.{ℕ-discrete}
 use native.Mathlib.Nat.{zero-add}
 use native.Mathlib.Omega.{arith}
-use lib.Dec.{eqb, ltb}
 use lib.ListN.{length, getD, set}
 use lib.Seq.{getD-set-same, getD-set-other}
 use borrow.Author.Tests.{ne-eqb, lt-ltb}
-use Rattle.base.specs.Pick.{pick}
 use Rattle.rules.specs.Sizes.{nodes, threads, words, Settings, base}
 use Rattle.rules.specs.Words.{shardOf}
 use Rattle.rules.specs.Pc
 use Rattle.rules.specs.Pc.{Pc, pcOf, code}
 use Rattle.rules.specs.Rows.{idle}
-use Rattle.rules.specs.Places.{accesses, does, ends}
-use Rattle.rules.specs.Step.{State, Out, answer, refused, stepOf}
+use Rattle.rules.specs.Places.{accesses, does}
+use Rattle.rules.specs.Step.{State, Out, answer, stepOf}
 use Rattle.rules.specs.Start.{startOf, begins, narrow}
 use Rattle.rules.specs.declared.Operation.{Operation}
 use Rattle.rules.specs.declared.Operation.the-variants.{Acquire, Release, Protect, Try, TryProtect, Reset, Raw, Swap, Retire, Eager, Cleanup, Shutdown}
 use Rattle.rules.specs.declared.Answer.{Answer}
 use Rattle.rules.specs.declared.Row.{Row}
 use Rattle.rules.specs.declared.Seen.{Seen}
-use Rattle.rules.specs.declared.Named.the-variants as cell
 use Rattle.bits.specs.BitLaws.{shard-below}
 use Rattle.lists.specs.Occ.{eq01, eq01-same, eq01-other, sum}
 use Rattle.lists.specs.Heap.{waits}
 use Rattle.view.specs.Every.{pc-is}
 use Rattle.view.specs.View.{View, viewOf, named, applies, enters}
 use Rattle.view.specs.Given.{Sized, guard-words}
-use Rattle.view.specs.Long.{Long, long}
+use Rattle.view.specs.Long.{long}
 use Rattle.view.specs.Turn
 use Rattle.view.specs.Turn.{Turn, Look, rowIn, row-view, step-turn}
 use Rattle.view.specs.Begin
@@ -51,10 +47,9 @@ use Rattle.balance.specs.Swing.{SwingIn, swing-place, swing-ends, swing-begin}
 use Rattle.claims.specs.Claim.{ClaimsIn}
 use Rattle.ranges.specs.Range.{Ranges}
 use Rattle.ranges.specs.RangeStep.{range-place, range-ends, range-begin}
-use Rattle.claims.specs.ClaimStep.{marks, claim-place, claim-ends, claim-begin, reclaim-waits}
-use Rattle.history.specs.Demand3
+use Rattle.claims.specs.ClaimStep.{claim-place, claim-ends, claim-begin, reclaim-waits}
 use Rattle.history.specs.Demand3.{fresh, row, Move, act, Event, eventBy, eventOf, event, Run, claims, claimed, retires, reclaims}
-use Rattle.history.specs.Fresh.{nothing, places, fresh-view, fresh-sized, fresh-heap, fresh-records, fresh-zone, fresh-count, fresh-tally, fresh-total, fresh-swing, fresh-claims, fresh-ranges, fresh-waits}
+use Rattle.history.specs.Fresh.{nothing, fresh-view, fresh-sized, fresh-heap, fresh-records, fresh-zone, fresh-count, fresh-tally, fresh-total, fresh-swing, fresh-claims, fresh-ranges, fresh-waits}
 use Rattle.history.specs.Told.{Told, told}
 
 -- settings as document 02 may choose them, with a shard rule that stays among them

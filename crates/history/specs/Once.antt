@@ -1,5 +1,5 @@
 -- Demand 3, exactly once.
-use mathlib.Core.Path.{_≡_, sym, ap, _∙_}
+use mathlib.Core.Path.{sym, ap, _∙_}
 use Prim.Native.Nat.{ℕ, _+_}
 use Rattle.rules.specs.Sizes.{Settings}
 use Rattle.lists.specs.Occ.{sum}

@@ -7,18 +7,16 @@ use Prim.Native.Nat.{ℕ, zero, suc, _+_, _*_, _-_, _/_, _%_, _≤_, _<_}
 use native.Mathlib.Nat.{not-suc-le-zero, le-of-suc-le-suc}
 use native.Mathlib.Decide.{ℕ-discrete, decLt}
 use native.Mathlib.Omega.{arith}
-use lib.Dec.{eqb}
 use lib.ListN.{length, getD, length-append, length-map, List·getD-append, List·getD-map}
 use lib.Seq.{getD-append-add, ext-getD}
 use borrow.Author.Tests.{ne-eqb, eq-eqb}
-use Rattle.base.specs.Pick.{pick}
-use Rattle.rules.specs.Sizes.{nodes, threads, Settings}
+use Rattle.rules.specs.Sizes.{nodes, Settings}
 use Rattle.rules.specs.Step.{State}
 use Rattle.rules.specs.Pc.{pcOf}
 use Rattle.rules.specs.Rows.{idle}
 use Rattle.rules.specs.declared.Row.{Row}
 use Rattle.rules.specs.declared.Named.the-variants as cell
-use Rattle.lists.specs.Occ.{eq01, eq01-same, occ, sum}
+use Rattle.lists.specs.Occ.{eq01-same, occ, sum}
 use Rattle.lists.specs.Chain.{Seg, last, last-in, seg-length}
 use Rattle.lists.specs.Flat.{cat, Rows, cat-length, cat-get, map-get}
 use Rattle.lists.specs.Heap.{Loose, At, nodup}

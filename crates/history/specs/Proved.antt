@@ -1,10 +1,9 @@
 -- Demand 3 is proved: the statements of Demand3.antt for every choice of settings, and for the base.
-use Prim.Native.Nat.{ℕ}
 use mathlib.Core.Path.{refl}
 use native.Mathlib.Omega.{arith}
 use Rattle.rules.specs.Sizes.{Settings, base}
 use Rattle.history.specs.Demand3.{Choice, Safe, OnePlace, Once, Bound, Unbroken}
-use Rattle.history.specs.Invariant.{Chosen, chosen}
+use Rattle.history.specs.Invariant.{chosen}
 use Rattle.history.specs.Safety.{safe}
 use Rattle.history.specs.OnePlace.{one-place}
 use Rattle.history.specs.Once.{once}

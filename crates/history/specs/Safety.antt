@@ -1,13 +1,11 @@
 -- Demand 3, safety.
-use mathlib.Core.Path.{_≡_, refl, sym, ap, _∙_, subst}
+use mathlib.Core.Path.{_≡_, refl, sym, ap, _∙_}
 use mathlib.Core.Logic.{_≢_, _⊎_, inl, inr}
-use mathlib.Core.Bool.{Bool}
 use mathlib.Core.List.{List}
-use Prim.Native.Nat.{ℕ, _≤_, _<_}
+use Prim.Native.Nat.{ℕ, _<_}
 use native.Mathlib.Omega.{arith}
 use lib.ListN.{length, getD}
-use Rattle.rules.specs.Sizes.{threads, Settings}
-use Rattle.rules.specs.Places.{does}
+use Rattle.rules.specs.Sizes.{Settings}
 use Rattle.rules.specs.Step.{State, Out, stepOf}
 use Rattle.rules.specs.declared.Answer.{Answer}
 use Rattle.view.specs.View.{viewOf}

@@ -1,16 +1,14 @@
 -- What the statements of demand 3 read from the tables is what the layers' view has.
 use mathlib.Core.Path.{_≡_, refl, sym, ap, ap₂, _∙_}
-use mathlib.Core.List.{List, [], _∷_}
+use mathlib.Core.List.{[]}
 use Prim.Native.Nat.{ℕ, zero, suc, _+_, _*_, _≤_, _<_}
 use native.Mathlib.Decide.{decLt}
 use native.Mathlib.Omega.{arith}
-use lib.Dec.{eqb, ltb}
-use lib.ListN.{length, getD, List·getD-eq-default}
+use lib.ListN.{getD, List·getD-eq-default}
 use borrow.Author.Tests.{lt-ltb, ne-eqb}
-use Rattle.rules.specs.Sizes.{nodes, threads}
+use Rattle.rules.specs.Sizes.{nodes}
 use Rattle.rules.specs.Cells.{address}
 use Rattle.rules.specs.Step.{State, fetched}
-use Rattle.rules.specs.declared.Row.{Row}
 use Rattle.rules.specs.declared.Named.the-variants as cell
 use Rattle.lists.specs.Occ.{eq01, eq01-other, sum}
 use Rattle.lists.specs.Tab.{tab, tab-ext, tab-get}

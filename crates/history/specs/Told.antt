@@ -26,7 +26,7 @@ use Rattle.lists.specs.Heap.{waits}
 use Rattle.view.specs.Field.{IsId}
 use Rattle.view.specs.View.{View, InTable, named, get, applies}
 use Rattle.view.specs.Ranges.{limit}
-use Rattle.view.specs.Every.{every, two, At, pick-case, either}
+use Rattle.view.specs.Every.{every, two, At, either}
 use Rattle.view.specs.Long.{Long}
 use Rattle.view.specs.Turn.{rowIn, Look}
 use Rattle.claims.specs.ClaimStep.{marks}

@@ -1,7 +1,7 @@
 -- A step's effect, place by place: what it writes is in range, the row that it leaves too, the cell that it writes besides is one, and its answer is not 16 or 29.
 use Prim.Native.Nat.{ℕ, _+_, _*_, _-_, _/_, _%_, _^_, _≤_, zero-le}
 use mathlib.Core.Path.{_≡_, subst}
-use mathlib.Core.Bool.{Bool, true, false}
+use mathlib.Core.Bool.{Bool, false}
 use native.Mathlib.Omega.{arith}
 use lib.Dec.{eqb, ltb}
 use borrow.Author.Tests.{eqb-false, ltb-false, le-ltb}

@@ -1,12 +1,12 @@
 -- Who holds each record: the available list behind its lock bit, the threads, and the owners; and the list of all records.
-use mathlib.Core.Path.{_≡_, refl, sym, ap, _∙_, subst}
+use mathlib.Core.Path.{_≡_}
 use mathlib.Core.Logic.{_≢_}
 use mathlib.Core.List.{List, [], _∷_}
 use Prim.Native.Nat.{ℕ, suc, _+_, _*_, _-_, _≤_, _<_, min}
 use lib.ListN.{length, getD}
 use Rattle.rules.specs.Sizes.{records}
 use Rattle.rules.specs.Pc
-use Rattle.rules.specs.Pc.{Pc, pcOf, code}
+use Rattle.rules.specs.Pc.{Pc, pcOf}
 use Rattle.rules.specs.Rows.{idle}
 use Rattle.rules.specs.declared.Row.{Row}
 use Rattle.lists.specs.Occ.{occ, eq01, sum}

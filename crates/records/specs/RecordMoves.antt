@@ -1,22 +1,22 @@
 -- How records change hands: each transition of the layer as thread t's row becomes r′.
 use mathlib.Core.Path.{_≡_, refl, sym, ap, _∙_, subst}
-use mathlib.Core.Logic.{_≢_, _⊎_, inl, inr}
+use mathlib.Core.Logic.{_≢_}
 use mathlib.Core.List.{List, [], _∷_}
-use Prim.Native.Nat.{ℕ, zero, suc, _+_, _*_, _-_, _≤_, _<_, min}
+use Prim.Native.Nat.{ℕ, _+_, _*_, _≤_, _<_}
 use native.Mathlib.Decide.{ℕ-discrete}
 use native.Mathlib.Omega.{arith}
 use lib.ListN.{length, getD, set, length-set}
 use lib.Seq.{getD-set-same, getD-set-other}
 use Rattle.rules.specs.Sizes.{records}
-use Rattle.rules.specs.Pc.{Pc, pcOf, code}
+use Rattle.rules.specs.Pc.{pcOf}
 use Rattle.rules.specs.Rows.{idle}
 use Rattle.rules.specs.declared.Row.{Row}
-use Rattle.lists.specs.Occ.{occ, eq01, eq01-same, eq01-other, eq01-le, sum, sum-set, sum-at, sum-two}
+use Rattle.lists.specs.Occ.{occ, eq01, eq01-same, sum, sum-set, sum-at, sum-two}
 use Rattle.lists.specs.Chain.{Seg, seg-frame, seg-push, seg-head}
 use Rattle.lists.specs.Each.{each-set}
 use Rattle.view.specs.Field.{IsId}
 use Rattle.records.specs.Hold
-use Rattle.records.specs.Hold.{Hold, hold, hasOf, has, lockOf, lock, offOf, off, used, own, KnowOf, Know, RecordsAt}
+use Rattle.records.specs.Hold.{Hold, hold, hasOf, has, lockOf, lock, off, used, own, KnowOf, Know, RecordsAt}
 
 module _ (ha head : ℕ) (avn next ho : List ℕ) (rows : List Row) (I : RecordsAt ha head avn next ho rows) (t : ℕ) (ht : t < length rows) where
   abbrev r : Row

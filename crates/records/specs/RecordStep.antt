@@ -31,7 +31,7 @@ use Rattle.lists.specs.Each.{each-set}
 use Rattle.view.specs.Field.{IsId, cleared}
 use Rattle.view.specs.Ranges.{limit}
 use Rattle.view.specs.View.{View, InTable, named, get, applies, enters}
-use Rattle.view.specs.Every.{every, two, At, pc-is, pick-all, pick-case, either, thus, thence}
+use Rattle.view.specs.Every.{every, two, At, pc-is, pick-all, either, thus, thence}
 use Rattle.view.specs.Rest.{all-passed, all-checked, all-emptied, all-from, all-examined, all-reclaimed, all-shut}
 use Rattle.view.specs.Turn.{rowIn, Look, sees}
 use Rattle.view.specs.Begin.{Admitted, Owned}

@@ -1,23 +1,18 @@
 -- Shutdown: until it starts no thread is at its places; from then on every thread is idle or at them.
-use mathlib.Core.Path.{_≡_, refl, sym, ap, _∙_, subst}
+use mathlib.Core.Path.{_≡_, refl, sym, ap, subst}
 use mathlib.Core.Logic.{_≢_, _⊎_, inl, inr}
-use mathlib.Core.Bool.{Bool, true, false}
 use mathlib.Core.List.{List, [], _∷_}
-use Prim.Native.Nat.{ℕ, suc, _+_, _*_, _%_, _≤_, _<_}
+use Prim.Native.Nat.{ℕ, _<_}
 use native.Mathlib.Omega.{arith}
-use lib.Dec.{eqb}
 use lib.ListN.{length, getD, set}
-use Rattle.base.specs.Pick.{pick}
 use Rattle.rules.specs.Sizes.{threads, Settings}
-use Rattle.rules.specs.Words.{locked, over}
 use Rattle.rules.specs.Pc
 use Rattle.rules.specs.Pc.{Pc, pcOf, code}
-use Rattle.rules.specs.Rows
-use Rattle.rules.specs.Rows.{idle, inShard, shardIn, stealing, stolenFrom}
+use Rattle.rules.specs.Rows.{idle}
 use Rattle.rules.specs.Places.{accesses, does, ends}
 use Rattle.rules.specs.Start.{begins}
 use Rattle.rules.specs.declared.Operation.{Operation}
-use Rattle.rules.specs.declared.Operation.the-variants.{Acquire, Release, Protect, Try, TryProtect, Reset, Raw, Swap, Retire, Eager, Cleanup, Shutdown}
+use Rattle.rules.specs.declared.Operation.the-variants.{Swap, Shutdown}
 use Rattle.rules.specs.declared.Row.{Row}
 use Rattle.rules.specs.declared.Seen.{Seen}
 use Rattle.rules.specs.declared.Effect.{Effect}

@@ -1,15 +1,15 @@
 -- A start over the tables as a start over the view: it is refused, it is done at once, or it is admitted and its entry is written.
-use Prim.Native.Nat.{ℕ, zero, suc, _+_, _*_, _-_, _%_, _^_, _≤_, _<_}
-use mathlib.Core.Path.{_≡_, refl, sym, ap, _∙_, subst}
+use Prim.Native.Nat.{ℕ, zero, suc, _+_, _*_, _-_, _^_, _≤_, _<_}
+use mathlib.Core.Path.{_≡_, refl, sym, ap, _∙_}
 use mathlib.Core.Logic.{_≢_, _⊎_, inl, inr}
-use mathlib.Core.Bool.{Bool, true, false, false≢true, true≢false}
+use mathlib.Core.Bool.{Bool, true, false, true≢false}
 use mathlib.Core.List.{List, [], _∷_}
 use lib.ListN.{length, getD, List·getD-eq-default}
 use lib.Dec.{eqb, ltb}
 use borrow.Author.Tests.{eqb-true, eqb-false, ltb-true, ltb-false, le-ltb}
 use native.Mathlib.Decide.{decLt}
 use native.Mathlib.Omega.{arith}
-use Rattle.base.specs.Pick.{pick, both}
+use Rattle.base.specs.Pick.{pick}
 use Rattle.rules.specs.Sizes.{records, sources, nodes, threads, row32, Settings}
 use Rattle.rules.specs.Pc
 use Rattle.rules.specs.Pc.{code}
@@ -20,20 +20,16 @@ use Rattle.rules.specs.declared.Class.the-variants.{AState, AHolder}
 use Rattle.rules.specs.Rows.{rowAt}
 use Rattle.rules.specs.Step.{State, Out, out, answer, refused, sizes, atIn}
 use Rattle.rules.specs.Facts.{retire-unlinked, shutdown-alone}
-use Rattle.rules.specs.Start.{isIn, isAbove, anyAbove, narrow, orElse, notOwned, notSource, notNode, retireBy, notRetirable, busyBy, busy, refusal, refuseBy, refuseOf, begins, entered, ofNull, startBy, startIn, startOf}
+use Rattle.rules.specs.Start.{isIn, isAbove, anyAbove, narrow, orElse, notOwned, notSource, notNode, retireBy, notRetirable, busyBy, busy, refusal, refuseBy, refuseOf, begins, entered, ofNull, startIn, startOf}
 use Rattle.rules.specs.declared.Operation.{Operation}
 use Rattle.rules.specs.declared.Operation.the-variants.{Acquire, Release, Protect, Try, TryProtect, Reset, Raw, Swap, Retire, Eager, Cleanup, Shutdown}
-use Rattle.rules.specs.declared.Named.{Named}
 use Rattle.rules.specs.declared.Named.the-variants as cell
-use Rattle.rules.specs.declared.Answer.{Answer}
-use Rattle.rules.specs.declared.Entry.{Entry}
 use Rattle.rules.specs.declared.Row.{Row}
 use Rattle.lists.specs.Tab.{tab, tab-get, tab-length}
 use Rattle.view.specs.Field.{IsId, field, field-get}
-use Rattle.view.specs.View.{View, viewOf, InTable, get, enters}
+use Rattle.view.specs.View.{View, viewOf, InTable, enters}
 use Rattle.view.specs.Written.{Fits}
 use Rattle.view.specs.Given.{Sized, sized-of, sizes-of, view-entered, sized-entered}
-use Rattle.view.specs.Ranges.{not-first}
 use Rattle.view.specs.Calm.{Eight}
 use Rattle.view.specs.Every.{every-start, two, pick-all, pick-case}
 use Rattle.view.specs.Turn.{rowIn, row-view, Fine}

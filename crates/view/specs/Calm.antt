@@ -1,28 +1,25 @@
 -- What the effect of every place is: its row keeps eight stolen heads, what it writes fits the cell, and it ends with 25 or 26 at a swap or N1 only.
-use Prim.Native.Nat.{ℕ, suc, _+_, _*_, _-_, _%_, _^_, _≤_, _<_}
-use mathlib.Core.Path.{_≡_, refl, sym, ap, _∙_}
+use Prim.Native.Nat.{ℕ, _+_, _*_, _^_, _<_}
+use mathlib.Core.Path.{_≡_, refl, _∙_}
 use mathlib.Core.Logic.{_≢_, _⊎_, inl, inr}
-use mathlib.Core.Bool.{Bool, true, false, false≢true}
-use lib.ListN.{length, set, length-set}
+use mathlib.Core.Bool.{Bool, false}
+use lib.ListN.{length, length-set}
 use lib.Dec.{eqb}
 use native.Mathlib.Omega.{arith}
 use borrow.Author.Tests.{eqb-false}
 use Rattle.base.specs.Pick.{pick}
-use Rattle.rules.specs.Sizes.{records, nodes, threads, Settings}
-use Rattle.rules.specs.Words.{locked, withLock, over, dueTime}
+use Rattle.rules.specs.Sizes.{threads, Settings}
+use Rattle.rules.specs.Words.{withLock}
 use Rattle.rules.specs.Pc
 use Rattle.rules.specs.Pc.{Pc}
-use Rattle.rules.specs.Rows.{shardIn, stolenFrom, stealing}
-use Rattle.rules.specs.Rows
-use Rattle.rules.specs.Places.{accesses, does, answers, becomes, stores, also, ends, guarding, clearsGuards, closing, checked, passed, emptied, examineFrom, examined, reclaimed, shutNext}
+use Rattle.rules.specs.Rows.{shardIn, stealing}
+use Rattle.rules.specs.Places.{accesses, does, also, ends}
 use Rattle.rules.specs.declared.Row.{Row}
 use Rattle.rules.specs.declared.Seen.{Seen}
 use Rattle.rules.specs.declared.Effect.{Effect}
-use Rattle.rules.specs.declared.Named.{Named}
-use Rattle.rules.specs.declared.Named.the-variants as cell
 use Rattle.bits.specs.BitLaws.{with-lock}
 use Rattle.view.specs.View.{named}
-use Rattle.view.specs.Written.{narrow, Fits}
+use Rattle.view.specs.Written.{Fits}
 use Rattle.view.specs.Ranges.{Small}
 use Rattle.view.specs.Every.{every, two, pick-all}
 use Rattle.view.specs.Rest.{all-passed, all-checked, all-emptied, all-from, all-examined, all-reclaimed, all-shut}

@@ -1,21 +1,21 @@
 -- Viewing after an effect, or after a start, is the effect or the start on the view.
-use Prim.Native.Nat.{ℕ, zero, suc, _+_, _*_, _-_, _%_, _^_, _≤_, _<_, min}
+use Prim.Native.Nat.{ℕ, _+_, _*_, _-_, _<_, min}
 use mathlib.Core.Path.{_≡_, refl, sym, ap, ap₂, _∙_}
 use mathlib.Core.Logic.{_≢_}
 use mathlib.Core.Bool.{Bool, true, false}
 use mathlib.Core.List.{List, [], _++_}
-use lib.ListN.{length, getD, set, take, drop, replicate, length-set, length-take, length-drop, length-append, length-replicate, List·getD-append}
+use lib.ListN.{length, getD, set, take, drop, length-set, length-take, length-drop, length-append, length-replicate, List·getD-append}
 use lib.Seq.{getD-set-same, getD-set-other, ext-getD, getD-append-add, getD-take, getD-drop}
 use borrow.Author.Tests.{eqb-true, eq-eqb}
 use native.Mathlib.Decide.{decLt}
 use native.Mathlib.Omega.{arith}
-use Rattle.base.specs.Pick.{pick, both, is-both}
+use Rattle.base.specs.Pick.{pick, is-both}
 use Rattle.rules.specs.Sizes.{records, sources, nodes, threads, words, row32, row64}
 use Rattle.rules.specs.Words.{plus}
 use Rattle.rules.specs.Cells.{address, accessed, cellAt, inRange, unread, nothing}
 use Rattle.rules.specs.declared.Class.the-variants.{Anything}
 use Rattle.rules.specs.Rows.{rowAt, stored32, stored64}
-use Rattle.rules.specs.Step.{Shared, State, shared, state, sizes, written, closed, ticked, cellsGiven, guardsOf, guardsPut, guarded, guardsGiven, given}
+use Rattle.rules.specs.Step.{Shared, State, sizes, written, closed, ticked, cellsGiven, guardsOf, guardsPut, guarded, guardsGiven, given}
 use Rattle.rules.specs.Start.{entered}
 use Rattle.rules.specs.declared.Cell.{Cell}
 use Rattle.rules.specs.declared.Row.{Row}
@@ -23,15 +23,14 @@ use Rattle.rules.specs.declared.Effect.{Effect}
 use Rattle.rules.specs.declared.Entry.{Entry}
 use Rattle.rules.specs.declared.Guards.{Guards}
 use Rattle.rules.specs.declared.Guards.the-variants as guards
-use Rattle.rules.specs.declared.Named.{Named}
 use Rattle.rules.specs.declared.Named.the-variants as cell
 use Rattle.rules.specs.declared.Access.{Access}
 use Rattle.rules.specs.declared.Access.the-variants as by
 use Rattle.rows.specs.RowLaws.{load-store, load-else, stored32-length, stored64-length}
 use Rattle.bits.specs.BitLaws.{guarded-length, none-length}
-use Rattle.lists.specs.Tab.{tab, tab-length, tab-get, tab-set, tab-ext}
+use Rattle.lists.specs.Tab.{tab-get, tab-set, tab-ext}
 use Rattle.view.specs.Field.{field-cleared}
-use Rattle.view.specs.View.{View, shardHeads, view, viewOf, rowsIn, guardsIn, named, InTable, put, putIf, shut, shutIf, tick, seat, applies, enters, withHeads, withCounters, withRecords, withRows, withGuards}
+use Rattle.view.specs.View.{shardHeads, view, viewOf, rowsIn, guardsIn, named, InTable, put, putIf, shutIf, tick, applies, enters, withHeads, withCounters, withRecords}
 use Rattle.view.specs.Written.{SizedCells, Fits, written-view}
 
 -- ---- tables of the sizes of document 01

@@ -1,5 +1,5 @@
 -- How long each list of a view is.
-use Prim.Native.Nat.{ℕ, suc, _+_}
+use Prim.Native.Nat.{suc, _+_}
 use mathlib.Core.Path.{_≡_}
 use lib.ListN.{length, getD}
 use Rattle.rules.specs.Sizes.{records, sources, nodes, threads}

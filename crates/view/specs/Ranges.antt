@@ -1,6 +1,6 @@
 -- What the test for 29 gives: the names that a step uses are cells', what it reads is in its range, and its row's words are in theirs.
-use Prim.Native.Nat.{ℕ, zero, suc, _+_, _*_, _-_, _%_, _^_, _≤_, _<_}
-use mathlib.Core.Path.{_≡_, refl, sym, ap, _∙_}
+use Prim.Native.Nat.{ℕ, zero, suc, _+_, _*_, _-_, _^_, _≤_, _<_}
+use mathlib.Core.Path.{_≡_, refl, sym, _∙_}
 use mathlib.Core.Logic.{_≢_}
 use mathlib.Core.Bool.{Bool, true, false, false≢true}
 use mathlib.Core.List.{List, [], _∷_, map}
@@ -11,7 +11,7 @@ use native.Mathlib.Decide.{decLt}
 use native.Mathlib.Nat.{not-suc-le-zero, le-of-suc-le-suc}
 use native.Mathlib.Omega.{arith}
 use Rattle.base.specs.Pick.{pick, both, is-both}
-use Rattle.rules.specs.Sizes.{records, sources, nodes, threads, row32, row64, Settings}
+use Rattle.rules.specs.Sizes.{records, sources, nodes, threads, row32, Settings}
 use Rattle.rules.specs.Pc
 use Rattle.rules.specs.Pc.{Pc, places, pcOf, code}
 use Rattle.rules.specs.Cells.{address, accessed, unread, cellAt, nowhere, inRange}
@@ -25,7 +25,7 @@ use Rattle.rules.specs.declared.Named.the-variants as cell
 use Rattle.rules.specs.declared.Access.{Access}
 use Rattle.rules.specs.declared.Access.the-variants as by
 use Rattle.view.specs.Field.{IsId}
-use Rattle.view.specs.View.{View, shardHeads, InTable, named}
+use Rattle.view.specs.View.{shardHeads, InTable, named}
 use Rattle.view.specs.Written.{narrow, plain, address-in}
 
 -- ---- a test that passed

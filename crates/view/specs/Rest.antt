@@ -1,7 +1,6 @@
 -- What holds of every row that the rules' words for a pass can make holds of what they make.
 use Prim.Native.Nat.{ℕ, _+_, _-_}
 use lib.Dec.{eqb}
-use Rattle.base.specs.Pick.{pick}
 use Rattle.rules.specs.Sizes.{Settings}
 use Rattle.rules.specs.Pc
 use Rattle.rules.specs.Rows.{goTo, inShard, shardIn, stolenFrom}

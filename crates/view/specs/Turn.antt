@@ -4,9 +4,9 @@ use mathlib.Core.Path.{_≡_, refl, sym, ap, _∙_, subst}
 use mathlib.Core.Logic.{_≢_, _⊎_, inl, inr}
 use mathlib.Core.Bool.{Bool, true, false, false≢true}
 use mathlib.Core.List.{List, []}
-use lib.ListN.{length, getD}
+use lib.ListN.{getD}
 use lib.Dec.{eqb, ltb, leb}
-use borrow.Author.Tests.{eqb-true, eqb-false, ltb-true, leb-false, ne-eqb, eq-eqb}
+use borrow.Author.Tests.{eqb-true, eqb-false, ltb-true, leb-false, ne-eqb}
 use native.Mathlib.Omega.{arith}
 use Rattle.base.specs.Pick.{pick, both, is-both}
 use Rattle.rules.specs.Sizes.{records, threads, steps, row32, Settings}
@@ -17,22 +17,21 @@ use Rattle.rules.specs.Cells.{address, accessed, cellAt, inRange, unread}
 use Rattle.rules.specs.declared.Class.the-variants.{Anything}
 use Rattle.rules.specs.Rows.{rowAt, rowFits, first, idle}
 use Rattle.rules.specs.Places.{accesses, does, ends, damaged, accessOf, followOf, effectOf}
-use Rattle.rules.specs.Step.{Shared, State, Out, out, answer, refused, sizes, fetched, seen, untakenFor, untakenFrom, guardsOf, readBy, judge, judged, lookBy, lookOf, given, takeBy, takeOf, stepIn, stepOf}
+use Rattle.rules.specs.Step.{Shared, State, Out, out, answer, refused, sizes, fetched, untakenFor, untakenFrom, readBy, judge, judged, lookBy, lookOf, given, takeBy, takeOf, stepIn, stepOf}
 use Rattle.rules.specs.declared.Cell.{Cell}
 use Rattle.rules.specs.declared.Row.{Row}
 use Rattle.rules.specs.declared.Seen.{Seen}
 use Rattle.rules.specs.declared.Effect.{Effect}
-use Rattle.rules.specs.declared.Answer.{Answer}
 use Rattle.rules.specs.declared.Named.{Named}
 use Rattle.rules.specs.declared.Named.the-variants as cell
 use Rattle.rules.specs.declared.Access.{Access}
 use Rattle.rules.specs.declared.Access.the-variants as by
-use Rattle.lists.specs.Tab.{tab, tab-get}
+use Rattle.lists.specs.Tab.{tab-get}
 use Rattle.view.specs.Field.{IsId, field, field-get}
-use Rattle.view.specs.View.{View, view, viewOf, rowsIn, guardsIn, named, InTable, get, applies}
+use Rattle.view.specs.View.{View, viewOf, named, InTable, get, applies}
 use Rattle.view.specs.Written.{narrow, fetched-view}
 use Rattle.view.specs.Given.{Sized, Sound, sized-of, sizes-of, view-given, sized-given, guards-get}
-use Rattle.view.specs.Ranges.{Reads, limit, limit-narrow, reached, is-cell, access-reached, read-limit, in-limit, Small, small-of, code-of, not-first}
+use Rattle.view.specs.Ranges.{Reads, limit, limit-narrow, reached, is-cell, access-reached, read-limit, in-limit, Small, small-of, code-of}
 use Rattle.view.specs.Calm.{Eight, Calm, calm, Ended, Plain, numbered}
 use Rattle.view.specs.Every.{pick-all, pick-case}
 

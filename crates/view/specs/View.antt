@@ -1,17 +1,14 @@
 -- The lent tables by name: a number for each shared cell, a list by id for each field of a row, the threads' rows and their guarded sets.
 -- Demand 3 speaks of these and never of an offset.
-use Prim.Native.Nat.{ℕ, _+_, _*_, _-_, _≤_, _<_}
+use Prim.Native.Nat.{ℕ, _+_, _<_}
 use mathlib.Core.Bool.{Bool}
 use mathlib.Core.List.{List, []}
 use lib.ListN.{getD, set}
 use Rattle.base.specs.Pick.{pick}
 use Rattle.rules.specs.Sizes.{records, sources, nodes, threads}
 use Rattle.rules.specs.Words.{plus}
-use Rattle.rules.specs.Cells
-use Rattle.rules.specs.Cells.{cellAt, nothing, inRecords, inSources, inNodes}
 use Rattle.rules.specs.Rows.{rowAt}
 use Rattle.rules.specs.Step.{Shared, State, guardsOf, guarded}
-use Rattle.rules.specs.declared.Cell.{Cell}
 use Rattle.rules.specs.declared.Row.{Row}
 use Rattle.rules.specs.declared.Effect.{Effect}
 use Rattle.rules.specs.declared.Guards.{Guards}

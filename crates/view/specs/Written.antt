@@ -1,29 +1,27 @@
 -- A write to the tables is a write to the view.
-use Prim.Native.Nat.{ℕ, zero, suc, _+_, _*_, _-_, _%_, _^_, _≤_, _<_}
+use Prim.Native.Nat.{ℕ, _+_, _*_, _-_, _%_, _^_, _<_}
 use mathlib.Core.Path.{_≡_, refl, sym, ap, _∙_}
 use mathlib.Core.Logic.{_≢_}
-use mathlib.Core.Bool.{Bool, true, false, false≢true}
+use mathlib.Core.Bool.{Bool, true, false}
 use mathlib.Core.List.{List, []}
-use lib.ListN.{length, getD, set, length-set}
+use lib.ListN.{length, getD, set}
 use lib.Seq.{getD-set-same, getD-set-other, set-out}
-use lib.Dec.{eqb, ltb}
-use borrow.Author.Tests.{eq-eqb, ne-eqb, lt-ltb, le-ltb, eqb-false, ltb-true, ltb-false}
-use native.Mathlib.Decide.{ℕ-discrete, decLt}
+use borrow.Author.Tests.{ne-eqb, lt-ltb, le-ltb}
 use native.Mathlib.Omega.{arith}
 use Rattle.base.specs.Pick.{pick, pick-yes, pick-no}
-use Rattle.rules.specs.Sizes.{records, sources, nodes, threads, words, row32, row64}
+use Rattle.rules.specs.Sizes.{records, sources, nodes}
 use Rattle.rules.specs.Cells
-use Rattle.rules.specs.Cells.{address, cellAt, nothing, nowhere, wordOf, inRecords, inSources, inNodes, inRange}
+use Rattle.rules.specs.Cells.{address, cellAt, nothing, wordOf, inRecords, inSources, inNodes}
 use Rattle.rules.specs.declared.Class.{Class}
 use Rattle.rules.specs.declared.Class.the-variants.{Anything, ARecord, ANode, AnAvailable, AState, AHolder}
-use Rattle.rules.specs.Step.{Shared, State, shared, sizes, fetched, written}
+use Rattle.rules.specs.Step.{Shared, shared, fetched, written}
 use Rattle.rules.specs.declared.Cell.{Cell}
 use Rattle.rules.specs.declared.Row.{Row}
 use Rattle.rules.specs.declared.Named.{Named}
 use Rattle.rules.specs.declared.Named.the-variants as cell
-use Rattle.lists.specs.Tab.{tab, tab-length, tab-get, tab-ext, tab-set}
+use Rattle.lists.specs.Tab.{tab, tab-get, tab-ext, tab-set}
 use Rattle.view.specs.Field.{field, IsId, field-get, field-same, field-other}
-use Rattle.view.specs.View.{View, shardHeads, Heads, headsIn, countersIn, recordsIn, sourcesIn, nodesIn, view, InTable, get, put, withHeads, withCounters, withRecords, withSources, withNodes}
+use Rattle.view.specs.View.{View, shardHeads, view, InTable, get, put, withHeads, withCounters, withRecords, withSources, withNodes}
 
 -- ---- tables of the sizes of document 01
 pub record SizedCells (s : Shared) : Type 0 where
