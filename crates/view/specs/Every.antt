@@ -5,11 +5,10 @@ use mathlib.Core.Bool.{Bool, true, false}
 use mathlib.Core.List.{List, [], _∷_}
 use native.Mathlib.Decide.{decLt}
 use native.Mathlib.Omega.{arith}
-use lib.Dec.{eqb}
 use lib.ListN.{List·getD-eq-default}
 use Rattle.base.specs.Pick.{pick}
 use Rattle.rules.specs.Pc
-use Rattle.rules.specs.Pc.{Pc, places, pcOf, code}
+use Rattle.rules.specs.Pc.{Pc, Pc-discrete, places, pcOf, code}
 use Rattle.rules.specs.declared.Effect.{Effect}
 use Rattle.rules.specs.declared.Operation.{Operation}
 use Rattle.rules.specs.declared.Operation.the-variants.{Acquire, Release, Protect, Try, TryProtect, Reset, Raw, Swap, Retire, Eager, Cleanup, Shutdown}
@@ -70,7 +69,7 @@ pc-is p e = ap pcOf e ∙ pc-of-code p
 -- a class of places: what the list says of a place, else c
 abbrev pub classed : {C : Type 0} → C → List (Pc × C) → Pc → C
 classed c [] p = c
-classed c (x ∷ l) p = pick (eqb (code p) (code (x .0))) (x .1) (classed c l p)
+classed c (x ∷ l) p = elim (Pc-discrete (x .0) p) [ yes e ↦ x .1 | no ne ↦ classed c l p ]
 
 -- both, as a type of its own, which `search` proves by `two`
 pub record Two (A B : Type 0) : Type 0 where
