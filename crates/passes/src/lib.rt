@@ -2,7 +2,7 @@
 ghost use mathlib.Core.Path.{_≡_};
 ghost use Rattle.rules.specs.Sizes.{base};
 ghost use Rattle.rules.specs.Places.{checked, passed, emptied, examineAt, examineFrom, examined, reclaimed, shutNext, newPass};
-ghost use Rattle.rules.specs.Rows.{goTo, stolenFrom};
+ghost use Rattle.rules.specs.Rows.{goTo, stolenFrom, freed};
 ghost use Rattle.rules.specs.Pc;
 ghost use Rattle.base.specs.Pick.{pick};
 ghost use lib.Dec.{eqb};
@@ -10,6 +10,16 @@ ghost use Prim.Native.Nat.{_-_};
 use rules::Row;
 use rules::SHARDS;
 use rules::place;
+
+// A new pass steals from shard 0 on.
+pub fn new_pass(r: Row) -> Row
+    ensures { λ s. ⌜ s ≡ newPass r ⌝ }
+{
+    let mut s = r;
+    s.place = place::STEAL;
+    s.shard = 0;
+    s
+}
 
 // After Check, whose value is the row's rcount: a retire before its Reclaim, or the end of a pass.
 pub fn checked(r: Row) -> Row
@@ -29,13 +39,9 @@ pub fn checked(r: Row) -> Row
             s.place = place::C3;
             return s;
         }
-        s.place = place::STEAL;
-        s.shard = 0;
-        return s;
+        return new_pass(s);
     }
-    s.place = place::STEAL;
-    s.shard = 0;
-    s
+    new_pass(s)
 }
 
 // C1 only if there is something to give back.
@@ -128,6 +134,15 @@ fn reclaimed_by(r: Row, rest: u32, on: Row) -> Row
         return on;
     }
     r
+}
+
+// A node was freed.
+pub fn freed(r: Row) -> Row
+    ensures { λ s. ⌜ s ≡ freed r ⌝ }
+{
+    let mut s = r;
+    s.total = std::num::wrapping_add_u64(r.total, 1);
+    s
 }
 
 // A node was reclaimed, and `rest` is what is left of its list.

@@ -21,6 +21,8 @@ use effects::reclaims;
 use passes::emptied;
 use passes::examine_from;
 use passes::examined;
+use passes::freed;
+use passes::new_pass;
 use passes::next_stolen;
 use passes::passed;
 use passes::reclaimed;
@@ -43,10 +45,7 @@ fn less_one(n: u64) -> u64
 pub fn b1(r: Row, i: Seen) -> Effect
     ensures { λ e. ⌜ e ≡ does base Pc.B1 r i ⌝ }
 {
-    let mut s = r;
-    s.place = place::STEAL;
-    s.shard = 0;
-    puts(s, std::num::wrapping_add_u64(i.x, 1))
+    puts(new_pass(r), std::num::wrapping_add_u64(i.x, 1))
 }
 
 fn steal_by(r: Row, next: u32, from: u32, empty: Row) -> Effect
@@ -164,8 +163,7 @@ pub fn reclaim(r: Row, i: Seen) -> Effect
     let mut s = r;
     s.reclaimable = i.v;
     s.rcount = less_one(r.rcount);
-    s.total = std::num::wrapping_add_u64(r.total, 1);
-    reclaims(r.reclaimable, reclaimed(s, i.v))
+    reclaims(r.reclaimable, reclaimed(freed(s), i.v))
 }
 
 fn empty_by(r: Row, v: u32, next: u32, all: Row, some: Row) -> Effect

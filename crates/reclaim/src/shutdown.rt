@@ -10,6 +10,7 @@ ghost use lib.Dec.{eqb};
 use effects::closing;
 use effects::puts;
 use effects::reclaims;
+use passes::freed;
 use passes::shut_next;
 use passes::shut_reclaimed;
 use rules::Effect;
@@ -42,8 +43,7 @@ pub fn s2(r: Row, i: Seen) -> Effect
 {
     let mut s = r;
     s.reclaimable = i.v;
-    s.total = std::num::wrapping_add_u64(r.total, 1);
-    reclaims(r.reclaimable, shut_reclaimed(s, i.v))
+    reclaims(r.reclaimable, shut_reclaimed(freed(s), i.v))
 }
 
 // S3: clear the record table and both record heads.

@@ -123,11 +123,12 @@ abbrev pub dated : ℕ → ℕ → Row → Row
 dated d c r = record { place = r .place; operation = r .operation; rec = r .rec; next = r .next; source = r .source; node = r .node; seen = r .seen; shard = r .shard; lone = r .lone; reclaimable = r .reclaimable; unreclaimed = r .unreclaimed; tail = r .tail; done = r .done; stolen = r .stolen; count = r .count; rcount = r .rcount; total = r .total; due = d; clock = c }
 
 -- one node more was reclaimed
-abbrev pub freeing : Row → Row
-freeing r = record { place = r .place; operation = r .operation; rec = r .rec; next = r .next; source = r .source; node = r .node; seen = r .seen; shard = r .shard; lone = r .lone; reclaimable = r .reclaimable; unreclaimed = r .unreclaimed; tail = r .tail; done = r .done; stolen = r .stolen; count = r .count; rcount = less (r .rcount) 1; total = plus (r .total) 1; due = r .due; clock = r .clock }
-
 abbrev pub freed : Row → Row
 freed r = record { place = r .place; operation = r .operation; rec = r .rec; next = r .next; source = r .source; node = r .node; seen = r .seen; shard = r .shard; lone = r .lone; reclaimable = r .reclaimable; unreclaimed = r .unreclaimed; tail = r .tail; done = r .done; stolen = r .stolen; count = r .count; rcount = r .rcount; total = plus (r .total) 1; due = r .due; clock = r .clock }
+
+-- by a pass, which has one less of its rcount to give back
+abbrev pub freeing : Row → Row
+freeing r = freed (taking (less (r .rcount) 1) r)
 
 -- the first stolen node of the row's shard
 abbrev pub first : Row → ℕ

@@ -1,6 +1,7 @@
 -- `checked` meets its contract. Assumes nothing.
 use Rattle.base.specs.Pick.{cases}
 use Rattle.rules.specs.Places.{checked}
+use borrow.Author.Needs.{needs}
 use Rattle.passes.proofs.checked.Statement.{statement}
 use Rattle.passes.proofs.checked.Tie as tie
 
@@ -12,5 +13,7 @@ checked-spec =
     (λ c. search cases)
     (λ c. search cases)
     (λ c. search cases)
+    (λ c κs. search needs)
     (λ c. search cases)
+    (λ c κs. search needs)
     (λ c. search cases))
