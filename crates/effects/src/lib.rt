@@ -1,7 +1,9 @@
-// The rules' words for effects, one struct each, so that a place returns one of them.
+// The rules' words for effects, so that a place returns one of them.
 ghost use mathlib.Core.Path.{_≡_};
+ghost use mathlib.Core.Bool.{false};
 ghost use Rattle.rules.specs.Rows.{idle};
 ghost use Rattle.rules.specs.Places.{answers, becomes, stores, also, clearsGuards, guarding, reclaims, closing, damaged};
+ghost use Rattle.rules.specs.declared.Guards.the-variants.{Keep};
 use rules::Effect;
 use rules::Guards;
 use rules::Named;
@@ -34,183 +36,87 @@ fn idle() -> Row
     }
 }
 
+// An effect that leaves the guarded set and the record table.
+fn effect(row: Row, number: u32, value: u64, writes: bool, put: u64, cell: Named, to: u64) -> Effect
+    ensures { λ e. ⌜ e ≡ record { row = row; number = number; value = value; writes = writes; put = put; also = cell; to = to; guards = Keep; closes = false } ⌝ }
+{
+    Effect {
+        row: row,
+        number: number,
+        value: value,
+        writes: writes,
+        put: put,
+        also: cell,
+        to: to,
+        guards: Guards::Keep,
+        closes: false,
+    }
+}
+
 // The step goes on with this row.
 pub fn quiet(row: Row) -> Effect
     ensures { λ e. ⌜ e ≡ becomes row ⌝ }
 {
-    Effect {
-        row: row,
-        number: 0,
-        value: 0,
-        writes: false,
-        put: 0,
-        also: Named::Nothing,
-        to: 0,
-        guards: Guards::Keep,
-        closes: false,
-    }
+    effect(row, 0, 0, false, 0, Named::Nothing, 0)
 }
 
 // So it does, and its cell becomes `put`.
 pub fn puts(row: Row, put: u64) -> Effect
     ensures { λ e. ⌜ e ≡ stores put (becomes row) ⌝ }
 {
-    Effect {
-        row: row,
-        number: 0,
-        value: 0,
-        writes: true,
-        put: put,
-        also: Named::Nothing,
-        to: 0,
-        guards: Guards::Keep,
-        closes: false,
-    }
+    effect(row, 0, 0, true, put, Named::Nothing, 0)
 }
 
+// So it does, and the cell becomes `to`.
 pub fn links(row: Row, cell: Named, to: u64) -> Effect
     ensures { λ e. ⌜ e ≡ also cell to (becomes row) ⌝ }
 {
-    Effect {
-        row: row,
-        number: 0,
-        value: 0,
-        writes: false,
-        put: 0,
-        also: cell,
-        to: to,
-        guards: Guards::Keep,
-        closes: false,
-    }
+    effect(row, 0, 0, false, 0, cell, to)
 }
 
 pub fn puts_links(row: Row, put: u64, cell: Named, to: u64) -> Effect
     ensures { λ e. ⌜ e ≡ stores put (also cell to (becomes row)) ⌝ }
 {
-    Effect {
-        row: row,
-        number: 0,
-        value: 0,
-        writes: true,
-        put: put,
-        also: cell,
-        to: to,
-        guards: Guards::Keep,
-        closes: false,
-    }
-}
-
-fn answers(row: Row, number: u32, value: u64) -> Effect
-    ensures { λ e. ⌜ e ≡ answers number value row ⌝ }
-{
-    Effect {
-        row: row,
-        number: number,
-        value: value,
-        writes: false,
-        put: 0,
-        also: Named::Nothing,
-        to: 0,
-        guards: Guards::Keep,
-        closes: false,
-    }
-}
-
-fn answers_puts(row: Row, number: u32, value: u64, put: u64) -> Effect
-    ensures { λ e. ⌜ e ≡ stores put (answers number value row) ⌝ }
-{
-    Effect {
-        row: row,
-        number: number,
-        value: value,
-        writes: true,
-        put: put,
-        also: Named::Nothing,
-        to: 0,
-        guards: Guards::Keep,
-        closes: false,
-    }
-}
-
-fn answers_links(row: Row, number: u32, value: u64, cell: Named, to: u64) -> Effect
-    ensures { λ e. ⌜ e ≡ also cell to (answers number value row) ⌝ }
-{
-    Effect {
-        row: row,
-        number: number,
-        value: value,
-        writes: false,
-        put: 0,
-        also: cell,
-        to: to,
-        guards: Guards::Keep,
-        closes: false,
-    }
-}
-
-fn answers_puts_links(row: Row, number: u32, value: u64, put: u64, cell: Named, to: u64) -> Effect
-    ensures { λ e. ⌜ e ≡ stores put (also cell to (answers number value row)) ⌝ }
-{
-    Effect {
-        row: row,
-        number: number,
-        value: value,
-        writes: true,
-        put: put,
-        also: cell,
-        to: to,
-        guards: Guards::Keep,
-        closes: false,
-    }
+    effect(row, 0, 0, true, put, cell, to)
 }
 
 // A cell that was read is out of its range.
 pub fn damaged(row: Row) -> Effect
     ensures { λ e. ⌜ e ≡ damaged row ⌝ }
 {
-    answers(row, 29, 0)
+    effect(row, 29, 0, false, 0, Named::Nothing, 0)
 }
 
 // The operation ends, and the thread is idle: 2, 3, 25 and 26.
 pub fn ends(number: u32, value: u64) -> Effect
     ensures { λ e. ⌜ e ≡ answers number value idle ⌝ }
 {
-    answers(idle(), number, value)
+    effect(idle(), number, value, false, 0, Named::Nothing, 0)
 }
 
 pub fn ends_puts(number: u32, value: u64, put: u64) -> Effect
     ensures { λ e. ⌜ e ≡ stores put (answers number value idle) ⌝ }
 {
-    answers_puts(idle(), number, value, put)
+    effect(idle(), number, value, true, put, Named::Nothing, 0)
 }
 
 pub fn ends_links(number: u32, value: u64, cell: Named, to: u64) -> Effect
     ensures { λ e. ⌜ e ≡ also cell to (answers number value idle) ⌝ }
 {
-    answers_links(idle(), number, value, cell, to)
+    effect(idle(), number, value, false, 0, cell, to)
 }
 
 pub fn ends_puts_links(number: u32, value: u64, put: u64, cell: Named, to: u64) -> Effect
     ensures { λ e. ⌜ e ≡ stores put (also cell to (answers number value idle)) ⌝ }
 {
-    answers_puts_links(idle(), number, value, put, cell, to)
+    effect(idle(), number, value, true, put, cell, to)
 }
 
 // Node n is reclaimed: its row becomes 0.
 pub fn reclaims(node: u32, row: Row) -> Effect
     ensures { λ e. ⌜ e ≡ reclaims node row ⌝ }
 {
-    Effect {
-        row: row,
-        number: 4,
-        value: node as u64,
-        writes: true,
-        put: 0,
-        also: Named::NodeState(node),
-        to: 0,
-        guards: Guards::Keep,
-        closes: false,
-    }
+    effect(row, 4, node as u64, true, 0, Named::NodeState(node), 0)
 }
 
 pub fn clears_guards(row: Row) -> Effect
