@@ -4,12 +4,13 @@ ghost use mathlib.Core.List.{List};
 ghost use Prim.Native.Nat.{ℕ};
 ghost use Rattle.rules.specs.Sizes.{base};
 ghost use Rattle.rules.specs.Step.{shared, state, out};
-ghost use Rattle.rules.specs.Start.{entered, startIn, startOf, startBy, ofNull};
+ghost use Rattle.rules.specs.Start.{entered, startIn, startOf};
 use crate::step::sized;
 use rules::Answer;
 use rules::Entry;
 use rules::Operation;
 use starts::begin::begin;
+use starts::begin::of_null;
 use starts::refuse::refuse;
 
 // What a start writes; it takes no step, and leaves the guarded sets g.
@@ -37,16 +38,6 @@ fn enter(
         e.put,
     );
     rows::store_row(rows32, rows64, t, e.row);
-}
-
-// `try_protect` of null is done at once.
-fn of_null(e: Entry) -> bool
-    ensures { λ b. ⌜ b ≡ ofNull e ⌝ }
-{
-    if e.row.operation == rules::kind::TRY_PROTECT {
-        return e.row.node == 0;
-    }
-    false
 }
 
 // A start on tables of the right sizes, by a thread.

@@ -3,7 +3,7 @@ ghost use mathlib.Core.Path.{_≡_};
 ghost use Rattle.rules.specs.Sizes.{base};
 ghost use Rattle.rules.specs.Pc;
 ghost use Rattle.rules.specs.Pc.{code};
-ghost use Rattle.rules.specs.Start.{begins, entry, freshAt, narrow};
+ghost use Rattle.rules.specs.Start.{begins, entry, freshAt, narrow, ofNull};
 ghost use Rattle.rules.specs.Start;
 ghost use Rattle.rules.specs.Words.{shardOf};
 use crate::refuse::cut;
@@ -119,4 +119,14 @@ pub fn begin(o: Operation) -> Entry
         Operation::Cleanup => quietly(kind::CLEANUP, place::B1, 0, 0, 0),
         Operation::Shutdown => shuts_down(),
     }
+}
+
+// `try_protect` of null is done at once.
+pub fn of_null(e: Entry) -> bool
+    ensures { λ b. ⌜ b ≡ ofNull e ⌝ }
+{
+    if e.row.operation == kind::TRY_PROTECT {
+        return e.row.node == 0;
+    }
+    false
 }
