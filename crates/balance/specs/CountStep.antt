@@ -1,7 +1,7 @@
 -- Every step and every start keeps the balance of `count`, and the bound.
 use mathlib.Core.Path.{_≡_, refl, sym, ap, _∙_, subst}
 use mathlib.Core.Logic.{_≢_, _⊎_, inl, inr}
-use mathlib.Core.Bool.{Bool, false}
+use mathlib.Core.Bool.{false}
 use mathlib.Core.List.{List, [], _∷_}
 use Prim.Native.Nat.{ℕ, suc, _+_, _*_, _-_, _/_, _≤_, _<_, max}
 use native.Mathlib.Decide.{ℕ-discrete}
@@ -9,8 +9,7 @@ use native.Mathlib.Omega.{arith}
 use lib.Dec.{eqb}
 use lib.ListN.{length, getD, set, length-set}
 use lib.Seq.{getD-set-other}
-use borrow.Author.Tests.{eqb-true, eqb-false, ltb-false}
-use Rattle.base.specs.Pick.{pick}
+use borrow.Author.Tests.{eqb-true, ltb-false}
 use Rattle.rules.specs.Sizes.{steps, nodes, threads, Settings}
 use Rattle.rules.specs.Words.{plus, over}
 use Rattle.rules.specs.Pc
@@ -26,12 +25,11 @@ use Rattle.rules.specs.declared.Effect.{Effect}
 use Rattle.rules.specs.declared.Named.the-variants as cell
 use Rattle.counts.specs.CountLaws.{over-plain}
 use Rattle.lists.specs.Occ.{eq01, eq01-same, eq01-other, eq01-le, sum, sum-set}
-use Rattle.view.specs.View.{View, InTable, named, get, applies, enters}
-use Rattle.view.specs.Ranges.{limit}
+use Rattle.view.specs.View.{View, named, applies, enters}
 use Rattle.view.specs.Every.{pc-is, every, every-start, two, At, thus, thence, either, pick-all, pick-case}
 use Rattle.view.specs.Long.{Long}
 use Rattle.view.specs.Rest.{all-shut}
-use Rattle.view.specs.Turn.{rowIn, Look}
+use Rattle.view.specs.Turn.{rowIn, Look, swap-free}
 use Rattle.view.specs.Begin.{Admitted}
 use Rattle.shutdown.specs.Zone.{ZoneIn, Shut, side, mark-open, all-shut-rows}
 use Rattle.balance.specs.Balance
@@ -157,16 +155,10 @@ module _ (g : Settings) (v : View) (I : CountIn g v) (Z : ZoneIn v) (lv : Long v
   kSwap i l =
       thus (pick-all (K Pc.Swap) (eqb (i .w) 2) _ _ still
       (pick-case (K Pc.Swap) (eqb (r .node) 0) _ _ (λ _. still)
-      (λ e. pick-case (K Pc.Swap) (eqb (i .w) 0) _ _ (λ q. live (free e (eqb-true (i .w) 0 q)) (let a = lv .state in let b = l .small .node in omega arith)) (λ _. still))))
+      (λ e. pick-case (K Pc.Swap) (eqb (i .w) 0) _ _ (λ q. live (swap-free l e (eqb-true (i .w) 0 q)) (let a = lv .state in let b = l .small .node in omega arith)) (λ _. still))))
     where
       still : CountAt g mark st count n (plus ticks 1) (set rows t idle)
       still = goes Pc.Swap (l .place) (λ q. q) idle refl
-
-      free : eqb (r .node) 0 ≡ false → i .w ≡ 0 → getD st (r .node) 0 ≡ 0
-      free e w0 =
-          let y : i .y ≡ getD st (r .node) 0 = subst (λ (b : Bool). i .y ≡ get (pick b cell.Nothing (cell.NodeState (r .node))) v) e (l .y) in
-          let f : i .y ≤ 2 = subst (λ (b : Bool). InTable (pick b cell.Nothing (cell.NodeState (r .node))) → i .y ≤ limit (pick b cell.Nothing (cell.NodeState (r .node)))) e (λ _. l .fit) (let q = l .small .node in let z = eqb-false (r .node) 0 e in (omega arith, q)) in
-          let w = l .w in omega arith
 
       live : getD st (r .node) 0 ≡ 0 → r .node < length st → CountAt g mark (set st (r .node) 1) count n (plus ticks 1) (set rows t idle)
       live z h =

@@ -35,7 +35,7 @@ use Rattle.lists.specs.Each.{each-set}
 use Rattle.view.specs.Field.{IsId, cleared}
 use Rattle.view.specs.Ranges.{limit}
 use Rattle.view.specs.View.{View, InTable, named, get, applies, enters}
-use Rattle.view.specs.Every.{pc-is, classed, every, every-start, two, At, thus, either, pick-all, pick-case}
+use Rattle.view.specs.Every.{pc-is, classed, every, every-start, two, never, At, thus, either, pick-all, pick-case}
 use Rattle.view.specs.Long.{Long}
 use Rattle.view.specs.Rest.{all-passed, all-checked, all-emptied, all-from, all-examined, all-reclaimed, all-shut}
 use Rattle.view.specs.Turn.{rowIn, Look, sees}
@@ -67,10 +67,7 @@ marks p r e cl = marksOf (marking p) r e cl
 
 -- a thread that is idle or shutting down protects nothing and scans nothing
 shut-before : (p : Pc) → Shut (side p) → scan p ≡ Scan.before
-shut-before = every (λ (p : Pc). Shut (side p) → scan p ≡ Scan.before) (search (two, nobody) depth 12 fits 4000)
-  where
-    nobody : {s : Scan} → ⊥ → s ≡ Scan.before
-    nobody q = absurd q
+shut-before = every (λ (p : Pc). Shut (side p) → scan p ≡ Scan.before) (search (two, never) depth 12 fits 4000)
 
 shut-val : (p : Pc) (hz : List ℕ) (rec node : ℕ) → Shut (side p) → ValOf (scan p) hz rec node
 shut-val p hz rec node h = rw (shut-before p h) tt
@@ -101,10 +98,7 @@ val-hz Scan.during hz hz′ rec node f h = tt
 val-hz Scan.after hz hz′ rec node f h = tt
 
 checks-own : (p : Pc) → Checks (scan p) → hold p ≡ Hold.owns
-checks-own = every (λ (p : Pc). Checks (scan p) → hold p ≡ Hold.owns) (search (two, nobody) depth 12 fits 4000)
-  where
-    nobody : {h : Hold} → ⊥ → h ≡ Hold.owns
-    nobody q = absurd q
+checks-own = every (λ (p : Pc). Checks (scan p) → hold p ≡ Hold.owns) (search (two, never) depth 12 fits 4000)
 
 module _ (g : Settings) (v : View) (ls : List (List ℕ)) (H : HeapIn g v ls) (R : RecordsIn v) (Z : ZoneIn v) (cl : List ℕ) (I : ClaimsIn v cl ls) (lv : Long v) (t : ℕ) (ht : t < length (v .rows)) (gw : length (getD (v .guards) t []) ≡ words) where
   abbrev r : Row

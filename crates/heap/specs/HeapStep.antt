@@ -33,10 +33,9 @@ use Rattle.lists.specs.Occ.{occ, eq01, eq01-other}
 use Rattle.lists.specs.Chain
 use Rattle.lists.specs.Heap
 use Rattle.lists.specs.Heap.{Heap, waits}
-use Rattle.view.specs.View.{View, InTable, named, get, applies}
-use Rattle.view.specs.Ranges.{limit}
+use Rattle.view.specs.View.{View, named, applies}
 use Rattle.view.specs.Every.{pc-is, every, every-start, two, At, thus, either, pick-all, pick-case}
-use Rattle.view.specs.Turn.{rowIn, Look, sees}
+use Rattle.view.specs.Turn.{rowIn, Look, sees, swap-free}
 use Rattle.heap.specs.Hooks.{hooks, slot, loose, hv, toReclaim, toKeep, alone, slot-slot, slot-shard, shard-in, hook-stolen, hook-reclaim, hook-keep, hook-alone, get-stolen, get-reclaim, get-keep, get-alone}
 use Rattle.heap.specs.Stage
 use Rattle.heap.specs.Stage.{Stage, stage, Allowed, null, some, any, Is, ShapeOf, Shape, HeapAt, HeapIn, Others, others-none, others-one, others-two}
@@ -467,15 +466,9 @@ module _ (g : Settings) (A : Allowed g) (v : View) (ls : List (List ℕ)) (I : H
       live : eqb (r .node) 0 ≡ false → i .w ≡ 0 → K Pc.Swap i (stores (r .node) (also (cell.NodeState (r .node)) 1 (done (i .v))))
       live e w0 = still (Moves.restate g next st sh rows ls I t ht (set st (r .node) 1) idle (length-set st (r .node) 1) (λ m. same m (ℕ-discrete m (r .node)) (decLe (length st) (r .node))) (idle-hooks g A r c) (idle-clean g A) (record { tail = λ z. absurd (z refl); lone = λ z. absurd (z refl) }))
         where
-          free : getD st (r .node) 0 ≡ 0
-          free =
-              let y : i .y ≡ getD st (r .node) 0 = subst (λ (b : Bool). i .y ≡ get (pick b cell.Nothing (cell.NodeState (r .node))) v) e (l .y) in
-              let f : i .y ≤ 2 = subst (λ (b : Bool). InTable (pick b cell.Nothing (cell.NodeState (r .node))) → i .y ≤ limit (pick b cell.Nothing (cell.NodeState (r .node)))) e (λ _. l .fit) (let q = l .small .node in let z = eqb-false (r .node) 0 e in (omega arith, q)) in
-              let w = l .w in omega arith
-
           same : (m : ℕ) → Dec (m ≡ r .node) → Dec (length st ≤ r .node) → waits (set st (r .node) 1) m ≡ waits st m
           same m (yes q) (yes out) = ap (λ (x : List ℕ). waits x m) (set-out st (r .node) 1 out)
-          same m (yes q) (no in′) = rw (q, getD-set-same st (r .node) 1 0 (omega arith), free) (eq01-other 1 2 (omega arith) ∙ sym (eq01-other 0 2 (omega arith)))
+          same m (yes q) (no in′) = rw (q, getD-set-same st (r .node) 1 0 (omega arith), swap-free l e w0) (eq01-other 1 2 (omega arith) ∙ sym (eq01-other 0 2 (omega arith)))
           same m (no q) d = rw (getD-set-other st (r .node) m 1 0 q)
 
   -- ---- every place

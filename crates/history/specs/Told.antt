@@ -1,16 +1,15 @@
 -- What each place's step tells a watcher: its event makes the claims that the layer of claims keeps, and the ledger of waiting nodes adds up.
-use mathlib.Core.Path.{_≡_, refl, sym, subst}
+use mathlib.Core.Path.{_≡_, refl, sym}
 use mathlib.Core.Logic.{_≢_}
-use mathlib.Core.Bool.{Bool, true, false}
+use mathlib.Core.Bool.{true, false}
 use mathlib.Core.List.{List}
-use Prim.Native.Nat.{ℕ, _+_, _≤_, _<_}
+use Prim.Native.Nat.{ℕ, _+_, _<_}
 use native.Mathlib.Decide.{ℕ-discrete}
 use native.Mathlib.Omega.{arith}
 use lib.Dec.{eqb}
 use lib.ListN.{length, getD, set}
 use lib.Seq.{getD-set-same, getD-set-other}
 use borrow.Author.Tests.{eqb-true, eqb-false}
-use Rattle.base.specs.Pick.{pick}
 use Rattle.rules.specs.Sizes.{nodes, Settings}
 use Rattle.rules.specs.Pc
 use Rattle.rules.specs.Pc.{Pc}
@@ -24,11 +23,10 @@ use Rattle.rules.specs.declared.Named.the-variants as cell
 use Rattle.lists.specs.Occ.{eq01, eq01-same, eq01-other}
 use Rattle.lists.specs.Heap.{waits}
 use Rattle.view.specs.Field.{IsId}
-use Rattle.view.specs.View.{View, InTable, named, get, applies}
-use Rattle.view.specs.Ranges.{limit}
+use Rattle.view.specs.View.{View, InTable, named, applies}
 use Rattle.view.specs.Every.{every, two, At, either}
 use Rattle.view.specs.Long.{Long}
-use Rattle.view.specs.Turn.{rowIn, Look}
+use Rattle.view.specs.Turn.{rowIn, Look, swap-free}
 use Rattle.claims.specs.ClaimStep.{marks}
 use Rattle.history.specs.Demand3.{Event, eventBy, claimed, retires, reclaims}
 
@@ -67,13 +65,7 @@ module _ (g : Settings) (v : View) (lv : Long v) (t : ℕ) (cl : List ℕ) where
 
   -- a swap puts a free node, which is live then
   kSwap : (i : Seen) → Look g v t Pc.Swap r i → eqb (r .node) 0 ≡ false → eqb (i .w) 0 ≡ true → At K Pc.Swap (stores (r .node) (also (cell.NodeState (r .node)) 1 (done (i .v))))
-  kSwap i l e q = record { holds = record { claim = refl; waiting = λ m. enlive (r .node) (let a = lv .state in let b = l .small .node in omega arith) free m (ℕ-discrete m (r .node)); retire = λ n. refl; frees = λ h. absurd (omega arith) } }
-    where
-      free : getD st (r .node) 0 ≡ 0
-      free =
-          let y : i .y ≡ getD st (r .node) 0 = subst (λ (b : Bool). i .y ≡ get (pick b cell.Nothing (cell.NodeState (r .node))) v) e (l .y) in
-          let f : i .y ≤ 2 = subst (λ (b : Bool). InTable (pick b cell.Nothing (cell.NodeState (r .node))) → i .y ≤ limit (pick b cell.Nothing (cell.NodeState (r .node)))) e (λ _. l .fit) (let q = l .small .node in let z = eqb-false (r .node) 0 e in (omega arith, q)) in
-          let w = l .w in let z = eqb-true (i .w) 0 q in omega arith
+  kSwap i l e q = record { holds = record { claim = refl; waiting = λ m. enlive (r .node) (let a = lv .state in let b = l .small .node in omega arith) (swap-free l e (eqb-true (i .w) 0 q)) m (ℕ-discrete m (r .node)); retire = λ n. refl; frees = λ h. absurd (omega arith) } }
 
   -- Reclaim and S2 free the head of the reclaim list, which waits
   kFree : {p : Pc} (x : Row) → IsId nodes (r .reclaimable) → (r .reclaimable ≢ 0 → getD st (r .reclaimable) 0 ≡ 2) → marks p r (Places.reclaims (r .reclaimable) x) cl ≡ cl → applies t (named (accesses p r)) (Places.reclaims (r .reclaimable) x) v .nodes .state ≡ set st (r .reclaimable) 0 → At K p (Places.reclaims (r .reclaimable) x)

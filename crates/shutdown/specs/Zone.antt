@@ -19,7 +19,7 @@ use Rattle.rules.specs.declared.Effect.{Effect}
 use Rattle.rules.specs.declared.Named.the-variants as cell
 use Rattle.lists.specs.Each.{each-set}
 use Rattle.view.specs.View.{View, named, applies, enters}
-use Rattle.view.specs.Every.{pc-is, classed, every, every-start, two, At, thus, thence, either, pick-all}
+use Rattle.view.specs.Every.{pc-is, classed, every, every-start, two, never, At, thus, thence, either, pick-all}
 use Rattle.view.specs.Rest.{all-passed, all-checked, all-emptied, all-from, all-examined, all-reclaimed, all-shut}
 use Rattle.view.specs.Turn.{rowIn, Look}
 use Rattle.view.specs.Begin.{Admitted}
@@ -56,10 +56,7 @@ ZoneIn v = Zone (v .heads .mark) (v .rows)
 
 -- a thread that is idle or shutting down holds no record
 pub shut-free : (p : Pc) → Shut (side p) → hold p ≡ Hold.free
-shut-free = every (λ (p : Pc). Shut (side p) → hold p ≡ Hold.free) (search (two, nobody) depth 12 fits 4000)
-  where
-    nobody : {h : Hold} → ⊥ → h ≡ Hold.free
-    nobody q = absurd q
+shut-free = every (λ (p : Pc). Shut (side p) → hold p ≡ Hold.free) (search (two, never) depth 12 fits 4000)
 
 module _ (g : Settings) (v : View) (I : ZoneIn v) (t : ℕ) (ht : t < length (v .rows)) where
   abbrev r : Row

@@ -99,6 +99,10 @@ every P s p = subst P (pc-of-code p) (at (decLt (code p) 64))
     at (yes q) = let e : 0 + code p ≡ code p = omega arith in subst (λ (n : ℕ). P (pcOf n)) e (span-at P 6 0 (code p) q s)
     at (no q) = subst P (sym (List·getD-eq-default places Pc.Unknown {n = code p} (omega arith))) (span-at P 6 0 63 (omega arith) s)
 
+-- two of anything are the same where nothing can be
+pub never : {A : Type 0} {x y : A} → ⊥ → x ≡ y
+never q = absurd q
+
 -- a property of both choices is one of the choice
 pub pick-all {ℓ κ} : {A : Type ℓ} (P : A → Type κ) (b : Bool) (x y : A) → P x → P y → P (pick b x y)
 pick-all P true x y p q = p

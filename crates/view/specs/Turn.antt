@@ -121,6 +121,13 @@ sees {p = p} {r = r} l q n =
     let d = l .x in
     (omega arith, omega arith)
 
+-- the node that a swap makes live was free
+pub swap-free : {g : Settings} {v : View} {t : ℕ} {r : Row} {i : Seen} → Look g v t Pc.Swap r i → eqb (r .node) 0 ≡ false → i .w ≡ 0 → getD (v .nodes .state) (r .node) 0 ≡ 0
+swap-free {v = v} {r = r} {i = i} l e w0 =
+    let y : i .y ≡ getD (v .nodes .state) (r .node) 0 = subst (λ (b : Bool). i .y ≡ get (pick b cell.Nothing (cell.NodeState (r .node))) v) e (l .y) in
+    let f : i .y ≤ 2 = subst (λ (b : Bool). InTable (pick b cell.Nothing (cell.NodeState (r .node))) → i .y ≤ limit (pick b cell.Nothing (cell.NodeState (r .node)))) e (λ _. l .fit) (let q = l .small .node in let z = eqb-false (r .node) 0 e in (omega arith, q)) in
+    let w = l .w in omega arith
+
 -- what it knows before any test, if the names that it uses are cells'
 pub record Sees (k : View) (t : ℕ) (p : Pc) (r : Row) (i : Seen) : Type 0 where
   pub place : r .place ≡ code p
