@@ -28,8 +28,8 @@ module _ (g : Settings) (A : Allowed g) (s : State) (H : Heaped g s) (t : ℕ) w
   heap-step flag clock = go (stepOf g s t flag clock) (step-turn g s t flag clock)
     where
       go : (o : Out) → Turn g s t o → Heaped g (o .state)
-      go o (Turn.stays n h e) = rw e H
-      go o (Turn.stops n k w hk ht a e z) = (H .0, rw e (heap-ends g A (viewOf s) (H .0) (H .1) t (inside ht) n w))
+      go o (Turn.stays n h x y e) = rw e H
+      go o (Turn.stops n k w hk ht a e z d) = (H .0, rw e (heap-ends g A (viewOf s) (H .0) (H .1) t (inside ht) n w))
       go o (Turn.takes p i ht l a e z) = let n = heap-place g A (viewOf s) (H .0) (H .1) t (inside ht) p i l in (n .lists, rw e (n .inv))
 
   pub heap-start : ((x : ℕ) → shardOf g x < g .shards) → (o : Operation) → Heaped g (startOf g s t o .state)

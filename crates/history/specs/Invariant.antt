@@ -152,8 +152,8 @@ module _ (g : Settings) (C : Chosen g) (s : State) (h : List Event) (I : Inv g s
   seen-row t o ht = subst (λ (x : Row). Inv g (o .state) (eventBy (pcOf (x .place)) x (o .answer) ∷ h)) (row-view s t ht)
 
   step-inv : (t : ℕ) (o : Out) → Turn g s t o → Inv g (o .state) (eventBy (pcOf (row s t .place)) (row s t) (o .answer) ∷ h)
-  step-inv t o (Turn.stays n b e) = subst (λ (w : Out). Inv g (w .state) (eventBy (pcOf (row s t .place)) (row s t) (w .answer) ∷ h)) (sym e) (record { sized = I .sized; at = quietly g v h _ (none-by (pcOf (row s t .place)) (row s t) n b) A })
-  step-inv t o (Turn.stops n k w hk ht a e z) = seen-row t o ht (record {
+  step-inv t o (Turn.stays n b x y e) = subst (λ (w : Out). Inv g (w .state) (eventBy (pcOf (row s t .place)) (row s t) (w .answer) ∷ h)) (sym e) (record { sized = I .sized; at = quietly g v h _ (none-by (pcOf (row s t .place)) (row s t) n b) A })
+  step-inv t o (Turn.stops n k w hk ht a e z d) = seen-row t o ht (record {
     sized = z;
     at = subst (λ (x : View). InvAt g x (eventBy (pcOf (rowIn v t .place)) (rowIn v t) (o .answer) ∷ h)) (sym e)
         (quietly g _ h _ (ap (eventBy (pcOf (rowIn v t .place)) (rowIn v t)) a ∙ none-by (pcOf (rowIn v t .place)) (rowIn v t) n (big k))

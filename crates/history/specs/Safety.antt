@@ -23,8 +23,8 @@ module _ (g : Settings) (C : Chosen g) {s : State} {h : List Event} (run : Run g
   I = inv-run g C run
 
   unclaimed-by : (t : ℕ) (o : Out) → Turn g s t o → o .answer .number ≡ 4 → (c : ℕ) → getD (claims h) c 0 ≢ o .answer .value
-  unclaimed-by t o (Turn.stays n b e) four c = absurd (let a : o .answer .number ≡ n = ap (λ (x : Out). x .answer .number) e in omega arith)
-  unclaimed-by t o (Turn.stops n k w hk ht a e z) four c = absurd (not4 k)
+  unclaimed-by t o (Turn.stays n b x y e) four c = absurd (let a : o .answer .number ≡ n = ap (λ (x : Out). x .answer .number) e in omega arith)
+  unclaimed-by t o (Turn.stops n k w hk ht a e z d) four c = absurd (not4 k)
     where
       not4 : (n ≡ 25) ⊎ (n ≡ 26) → ⊥
       not4 (inl q) = let b : o .answer .number ≡ n = ap (λ (x : Answer). x .number) a in omega arith

@@ -96,7 +96,7 @@ module _ (g : Settings) (A : Allowed g) (v : View) (ls : List (List ℕ)) (H : H
 
     pub range-place : (p : Pc) (i : Seen) → Look g v t p r i → Ranges g (applies t (named (accesses p r)) (does g p r i) v)
     range-place p i l =
-        let nz : r .place ≢ 0 = λ e. subst (λ (q : Pc). does g q r i .number ≢ 29) (sym (is p (l .place)) ∙ ap pcOf e) (l .fine) refl in
+        let nz : r .place ≢ 0 = λ e. let q : 29 < 16 = subst (λ (q : Pc). does g q r i .number < 16) (sym (is p (l .place)) ∙ ap pcOf e) (l .low) in omega arith in
         let k = right g v t r (known nz) p i (seen-of l) in
         applied g v t (named (accesses p r)) (does g p r i) inside (k .writes .put) (k .writes .to) (k .row) I
 

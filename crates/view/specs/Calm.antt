@@ -2,18 +2,18 @@
 use Prim.Native.Nat.{ℕ, _+_, _*_, _^_, _<_}
 use mathlib.Core.Path.{_≡_, refl, _∙_}
 use mathlib.Core.Logic.{_≢_, _⊎_, inl, inr}
-use mathlib.Core.Bool.{Bool, false}
+use mathlib.Core.Bool.{Bool, true}
 use lib.ListN.{length, length-set}
-use lib.Dec.{eqb}
+use lib.Dec.{ltb}
 use native.Mathlib.Omega.{arith}
-use borrow.Author.Tests.{eqb-false}
+use borrow.Author.Tests.{ltb-true}
 use Rattle.base.specs.Pick.{pick}
 use Rattle.rules.specs.Sizes.{threads, Settings}
 use Rattle.rules.specs.Words.{withLock}
 use Rattle.rules.specs.Pc
 use Rattle.rules.specs.Pc.{Pc}
 use Rattle.rules.specs.Rows.{shardIn, stealing}
-use Rattle.rules.specs.Places.{accesses, does, also, ends}
+use Rattle.rules.specs.Places.{accesses, does, also, ends, damaged}
 use Rattle.rules.specs.declared.Row.{Row}
 use Rattle.rules.specs.declared.Seen.{Seen}
 use Rattle.rules.specs.declared.Effect.{Effect}
@@ -31,9 +31,13 @@ Eight r = length (r .stolen) ≡ 8
 unfoldable pub Ended : Pc → Effect → Type 0
 Ended p e = (n : ℕ) × (e ≡ ends n) × ((n ≡ 25) ⊎ (n ≡ 26)) × ((p ≡ Pc.N1) ⊎ (p ≡ Pc.Swap))
 
--- neither 25 nor 26
+-- no refusal, or 29
 abbrev pub Plain : Effect → Type 0
-Plain e = (e .number ≢ 25) × (e .number ≢ 26)
+Plain e = (e .number < 16) ⊎ (e .number ≡ 29)
+
+pub not-ended : (e : Effect) → Plain e → (e .number ≢ 25) × (e .number ≢ 26)
+not-ended e (inl h) = (λ q. omega arith, λ q. omega arith)
+not-ended e (inr h) = (λ q. omega arith, λ q. omega arith)
 
 module _ (g : Settings) (r : Row) (i : Seen) where
   pub record Numbered (p : Pc) (e : Effect) : Type 0 where
@@ -42,8 +46,11 @@ module _ (g : Settings) (r : Row) (i : Seen) where
   either-number : {p : Pc} (b : Bool) (x y : Effect) → Numbered p x → Numbered p y → Numbered p (pick b x y)
   either-number {p} b x y h k = pick-all (Numbered p) b x y h k
 
-  plain : {p : Pc} {e : Effect} → eqb (e .number) 25 ≡ false → eqb (e .number) 26 ≡ false → Numbered p e
-  plain {p} {e} m n = record { number = inr (eqb-false (e .number) 25 m, eqb-false (e .number) 26 n) }
+  plain : {p : Pc} {e : Effect} → ltb (e .number) 16 ≡ true → Numbered p e
+  plain {p} {e} h = record { number = inr (inl (ltb-true (e .number) 16 h)) }
+
+  damage : {p : Pc} {x : Row} → Numbered p (damaged x)
+  damage = record { number = inr (inr refl) }
 
   -- N1 and a swap end where there is no row to take, or a waiting node to put: nothing else is done then
   no-row : Numbered Pc.N1 (ends 26)
@@ -55,7 +62,7 @@ module _ (g : Settings) (r : Row) (i : Seen) where
   waits = record { number = inl (25, refl, inl refl, inr refl) }
 
   pub numbered : (p : Pc) → Numbered p (does g p r i)
-  numbered = every (λ (p : Pc). Numbered p (does g p r i)) (search (two, either-number, no-row, waits, plain) depth 12 fits 4000)
+  numbered = every (λ (p : Pc). Numbered p (does g p r i)) (search (two, either-number, no-row, waits, plain, damage) depth 12 fits 4000)
 
   pub record Calm (p : Pc) (e : Effect) : Type 0 where
     pub put : Fits (named (accesses p r)) (e .put)

@@ -4,7 +4,7 @@ use mathlib.Core.Path.{_≡_, refl, sym, ap, ap₂, _∙_}
 use mathlib.Core.Logic.{_≢_}
 use mathlib.Core.Bool.{Bool, true, false}
 use mathlib.Core.List.{List, [], _++_}
-use lib.ListN.{length, getD, set, take, drop, length-set, length-take, length-drop, length-append, length-replicate, List·getD-append}
+use lib.ListN.{length, getD, set, take, drop, length-set, length-take, length-drop, length-append, length-replicate, take-append-drop, List·getD-append}
 use lib.Seq.{getD-set-same, getD-set-other, ext-getD, getD-append-add, getD-take, getD-drop}
 use borrow.Author.Tests.{eqb-true, eq-eqb}
 use native.Mathlib.Decide.{decLt}
@@ -14,8 +14,9 @@ use Rattle.rules.specs.Sizes.{records, sources, nodes, threads, words, row32, r
 use Rattle.rules.specs.Words.{plus}
 use Rattle.rules.specs.Cells.{address, accessed, cellAt, inRange, unread, nothing}
 use Rattle.rules.specs.declared.Class.the-variants.{Anything}
-use Rattle.rules.specs.Rows.{rowAt, stored32, stored64}
-use Rattle.rules.specs.Step.{Shared, State, sizes, written, closed, ticked, cellsGiven, guardsOf, guardsPut, guarded, guardsGiven, given}
+use Rattle.rules.specs.Rows.{idle, rowAt, stored32, stored64}
+use Rattle.rules.specs.Places.{ends}
+use Rattle.rules.specs.Step.{Shared, State, state, sizes, written, closed, ticked, cellsGiven, guardsOf, guardsPut, guarded, guardsGiven, given}
 use Rattle.rules.specs.Start.{entered}
 use Rattle.rules.specs.declared.Cell.{Cell}
 use Rattle.rules.specs.declared.Row.{Row}
@@ -31,7 +32,7 @@ use Rattle.bits.specs.BitLaws.{guarded-length, none-length}
 use Rattle.lists.specs.Tab.{tab-get, tab-set, tab-ext}
 use Rattle.view.specs.Field.{field-cleared}
 use Rattle.view.specs.View.{shardHeads, view, viewOf, rowsIn, guardsIn, named, InTable, put, putIf, shutIf, tick, applies, enters, withHeads, withCounters, withRecords}
-use Rattle.view.specs.Written.{SizedCells, Fits, written-view}
+use Rattle.view.specs.Written.{SizedCells, Fits, written-none, written-view}
 
 -- ---- tables of the sizes of document 01
 pub record Sized (s : State) : Type 0 where
@@ -274,3 +275,17 @@ module _ (s : State) (z : Sized s) (t : ℕ) (ht : t < threads) (e : Entry) (rea
     rows64 = stored64-length (s .rows32) (s .rows64) t (e .row) ∙ z .rows64;
     guards = z .guards;
   }
+
+-- ---- an effect that only ends the operation: the thread is idle, and the step counts
+abbrev pub idled : State → ℕ → State
+idled s t = state (ticked (s .cells)) (stored32 (s .rows32) t idle) (stored64 (s .rows64) t idle) (s .guards)
+
+pub given-ends : (s : State) → Sized s → (t : ℕ) (c : Cell) (n : ℕ) → given s t c (ends n) ≡ idled s t
+unfolding given cellsGiven guardsGiven guarded address
+given-ends s z t c n = λ i. state (ticked (kept i)) (stored32 (s .rows32) t idle) (stored64 (s .rows64) t idle) (own i)
+  where
+    kept : written (written (s .cells) nothing 0) nothing 0 ≡ s .cells
+    kept = ap (λ (x : Shared). written x nothing 0) (written-none (s .cells) (z .cells) 0) ∙ written-none (s .cells) (z .cells) 0
+
+    own : guardsPut (s .guards) t (guardsOf (s .guards) t) ≡ s .guards
+    own = ap (λ (l : List ℕ). take (t * words) (s .guards) ++ l) (take-append-drop words (drop (t * words) (s .guards))) ∙ take-append-drop (t * words) (s .guards)

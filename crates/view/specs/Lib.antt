@@ -7,5 +7,6 @@ pub mod Ranges
 pub mod Calm
 pub mod Turn
 pub mod Begin
+pub mod Demand1
 pub mod Long
 pub mod Rest

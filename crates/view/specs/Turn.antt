@@ -30,9 +30,9 @@ use Rattle.lists.specs.Tab.{tab-get}
 use Rattle.view.specs.Field.{IsId, field, field-get}
 use Rattle.view.specs.View.{View, viewOf, named, InTable, get, applies}
 use Rattle.view.specs.Written.{narrow, fetched-view}
-use Rattle.view.specs.Given.{Sized, Sound, sized-of, sizes-of, view-given, sized-given, guards-get}
+use Rattle.view.specs.Given.{Sized, Sound, sized-of, sizes-of, view-given, sized-given, guards-get, idled, given-ends}
 use Rattle.view.specs.Ranges.{Reads, limit, limit-narrow, reached, is-cell, access-reached, read-limit, in-limit, Small, small-of, code-of}
-use Rattle.view.specs.Calm.{Eight, Calm, calm, Ended, Plain, numbered}
+use Rattle.view.specs.Calm.{Eight, Calm, calm, Ended, Plain, not-ended, numbered}
 use Rattle.view.specs.Every.{pick-all, pick-case}
 
 abbrev pub rowIn : View → ℕ → Row
@@ -109,7 +109,7 @@ pub record Look (g : Settings) (k : View) (t : ℕ) (p : Pc) (r : Row) (i : Seen
   pub guarded : i .guarded ≡ isGuarded (getD (k .guards) t []) (first r)
   pub thread : i .thread ≡ t
   pub also : InTable (does g p r i .also)
-  pub fine : does g p r i .number ≢ 29
+  pub low : does g p r i .number < 16
   pub early : k .counters .ticks < steps
 
 -- what is read of a narrow cell is what it holds, and within its limit
@@ -159,8 +159,8 @@ pub record InRange (k : View) : Type 0 where
   pub null : (c : Named) → InTable c → inRange (address c .class) 0 ≡ true
 
 pub data Turn (g : Settings) (s : State) (t : ℕ) (o : Out) : Type 0 where
-  stays : (n : ℕ) → 16 ≤ n → o ≡ refused n s → Turn g s t o
-  stops : (n : ℕ) → (n ≡ 25) ⊎ (n ≡ 26) → (pcOf (rowIn (viewOf s) t .place) ≡ Pc.N1) ⊎ (pcOf (rowIn (viewOf s) t .place) ≡ Pc.Swap) → viewOf s .counters .ticks < steps → t < threads → o .answer ≡ answer n 0 → viewOf (o .state) ≡ applies t cell.Nothing (ends n) (viewOf s) → Sized (o .state) → Turn g s t o
+  stays : (n : ℕ) → 16 ≤ n → n ≢ 25 → n ≢ 26 → o ≡ refused n s → Turn g s t o
+  stops : (n : ℕ) → (n ≡ 25) ⊎ (n ≡ 26) → (pcOf (rowIn (viewOf s) t .place) ≡ Pc.N1) ⊎ (pcOf (rowIn (viewOf s) t .place) ≡ Pc.Swap) → viewOf s .counters .ticks < steps → t < threads → o .answer ≡ answer n 0 → viewOf (o .state) ≡ applies t cell.Nothing (ends n) (viewOf s) → Sized (o .state) → o .state ≡ idled s t → Turn g s t o
   takes : (p : Pc) (i : Seen) → t < threads → Look g (viewOf s) t p (rowIn (viewOf s) t) i → o .answer ≡ answer (does g p (rowIn (viewOf s) t) i .number) (does g p (rowIn (viewOf s) t) i .value)
       → viewOf (o .state) ≡ applies t (named (accesses p (rowIn (viewOf s) t))) (does g p (rowIn (viewOf s) t) i) (viewOf s) → Sized (o .state) → Turn g s t o
 
@@ -204,9 +204,9 @@ module _ (g : Settings) (s : State) (z : Sized s) (t : ℕ) (ht : t < threads) (
           (pick (eqb n (code Pc.Swap)) (pick (eqb (R .node) 0) cell.Nothing (cell.NodeState (R .node)))
           (pick (eqb n (code Pc.N1)) (pick (eqb u 0) cell.Nothing (cell.Holder u)) cell.Nothing))
 
-  look : fits ≡ true → e .number ≢ 29 → Look g (viewOf s) t p R i
+  look : fits ≡ true → e .number < 16 → Look g (viewOf s) t p R i
   unfolding viewOf readBy
-  look h nine =
+  look h low =
       let a = is-both (rowFits g (s .rows32) t) _ h in
       let b = is-both (inRange (c .class) (i .x)) _ (a .1) in
       let d = is-both (inRange (l .class) (i .y)) _ (b .1) in
@@ -231,7 +231,7 @@ module _ (g : Settings) (s : State) (z : Sized s) (t : ℕ) (ht : t < threads) (
         guarded = ap (λ (q : List ℕ). isGuarded q (first R)) (sym (guards-get (s .guards) t ht (z .guards)));
         thread = refl;
         also = reached (e .also) (is-cell _ 0 (d .1));
-        fine = nine;
+        low = low;
         early = hk;
       }
 
@@ -253,28 +253,32 @@ module _ (g : Settings) (s : State) (z : Sized s) (t : ℕ) (ht : t < threads) (
   soon = hk
 
   stopped : (b : Bool) (n : ℕ) → (p ≡ Pc.N1) ⊎ (p ≡ Pc.Swap) → (n ≡ 25) ⊎ (n ≡ 26) → Turn g s t (takeBy s t c (judge R b (ends n)))
-  stopped b n w (inl q) = subst (λ (m : ℕ). Turn g s t (takeBy s t c (judge R b (ends m)))) (sym q) (stops 25 (inl refl) (where-is w) soon ht refl (view-given s z t ht (accesses p R) (ends 25) quiet) (sized-given s z t ht (accesses p R) (ends 25) quiet))
+  stopped b n w (inl q) = subst (λ (m : ℕ). Turn g s t (takeBy s t c (judge R b (ends m)))) (sym q) (stops 25 (inl refl) (where-is w) soon ht refl (view-given s z t ht (accesses p R) (ends 25) quiet) (sized-given s z t ht (accesses p R) (ends 25) quiet) (given-ends s z t c 25))
     where
       quiet : Sound (accesses p R) (ends 25)
       quiet = record { reach = λ x. absurd (false≢true x); put = λ x. absurd (false≢true x); also = tt; to = tt; stolen = refl }
-  stopped b n w (inr q) = subst (λ (m : ℕ). Turn g s t (takeBy s t c (judge R b (ends m)))) (sym q) (stops 26 (inr refl) (where-is w) soon ht refl (view-given s z t ht (accesses p R) (ends 26) quiet) (sized-given s z t ht (accesses p R) (ends 26) quiet))
+  stopped b n w (inr q) = subst (λ (m : ℕ). Turn g s t (takeBy s t c (judge R b (ends m)))) (sym q) (stops 26 (inr refl) (where-is w) soon ht refl (view-given s z t ht (accesses p R) (ends 26) quiet) (sized-given s z t ht (accesses p R) (ends 26) quiet) (given-ends s z t c 26))
     where
       quiet : Sound (accesses p R) (ends 26)
       quiet = record { reach = λ x. absurd (false≢true x); put = λ x. absurd (false≢true x); also = tt; to = tt; stolen = refl }
 
   -- neither 25 nor 26: what is judged is judged by its fitting
   judge-plain : (b : Bool) (d : Effect) → Plain d → judge R b d ≡ pick b d (damaged R)
-  judge-plain b d k = rw (ne-eqb (d .number) 25 (k .0), ne-eqb (d .number) 26 (k .1))
+  judge-plain b d k = let n = not-ended d k in rw (ne-eqb (d .number) 25 (n .0), ne-eqb (d .number) 26 (n .1))
 
-  goes : fits ≡ true → e .number ≢ 29 → Turn g s t (out (answer (e .number) (e .value)) (given s t c e))
-  goes h nine =
-      let k = look h nine in
+  nine : Turn g s t (refused 29 s)
+  nine = stays 29 (omega arith) (λ q. omega arith) (λ q. omega arith) refl
+
+  goes : fits ≡ true → e .number < 16 → Turn g s t (out (answer (e .number) (e .value)) (given s t c e))
+  goes h low =
+      let k = look h low in
       let w = sound (calm g R i (k .small) eight (rw (k .v) (omega arith)) (rw (k .thread) ht) p) (λ _. k .reach) (k .also) in
       taken (out (answer (e .number) (e .value)) (given s t c e)) k refl (view-given s z t ht (accesses p R) e w) (sized-given s z t ht (accesses p R) e w)
 
-  plainly : (b : Bool) → fits ≡ b → Turn g s t (takeBy s t c (pick b e (damaged R)))
-  plainly true h = pick-case (Turn g s t) (eqb (e .number) 29) _ _ (λ q. stays 29 (omega arith) refl) (λ q. goes h (eqb-false (e .number) 29 q))
-  plainly false h = stays 29 (omega arith) refl
+  plainly : Plain e → (b : Bool) → fits ≡ b → Turn g s t (takeBy s t c (pick b e (damaged R)))
+  plainly k false h = nine
+  plainly (inr q) true h = pick-case (Turn g s t) (eqb (e .number) 29) _ _ (λ _. nine) (λ ne. absurd (eqb-false (e .number) 29 ne q))
+  plainly (inl q) true h = pick-all (Turn g s t) (eqb (e .number) 29) _ _ nine (goes h q)
 
   judging : (b : Bool) → fits ≡ b → Turn g s t (takeBy s t c (judge R b e))
   unfolding Ended
@@ -282,7 +286,7 @@ module _ (g : Settings) (s : State) (z : Sized s) (t : ℕ) (ht : t < threads) (
     where
       go : Ended p e ⊎ Plain e → Turn g s t (takeBy s t c (judge R b e))
       go (inl q) = subst (λ (d : Effect). Turn g s t (takeBy s t c (judge R b d))) (sym (q .1)) (stopped b (q .0) (q .3) (q .2))
-      go (inr k) = subst (λ (d : Effect). Turn g s t (takeBy s t c d)) (sym (judge-plain b e k)) (plainly b h)
+      go (inr k) = subst (λ (d : Effect). Turn g s t (takeBy s t c d)) (sym (judge-plain b e k)) (plainly k b h)
 
   takes-turn : Turn g s t (takeOf g s t flag clock)
   unfolding takeOf lookOf lookBy judged accessOf effectOf
@@ -316,14 +320,14 @@ module _ (g : Settings) (s : State) (z : Sized s) (t : ℕ) (ht : t < threads) (
 in-turn : (g : Settings) (s : State) → Sized s → (t : ℕ) → t < threads → (flag : Bool) (clock : ℕ) → Turn g s t (stepIn g s t flag clock)
 unfolding stepIn
 in-turn g s z t ht flag clock =
-    pick-case (Turn g s t) (leb steps (getD (s .cells .counters) 4 0)) _ _ (λ _. stays 19 (omega arith) refl)
-    (λ e. pick-all (Turn g s t) (eqb (getD (s .rows32) (t * row32) 0) (code Pc.Idle)) _ _ (stays 21 (omega arith) refl) (takes-turn g s z t ht flag clock (leb-false _ _ e)))
+    pick-case (Turn g s t) (leb steps (getD (s .cells .counters) 4 0)) _ _ (λ _. stays 19 (omega arith) (λ q. omega arith) (λ q. omega arith) refl)
+    (λ e. pick-all (Turn g s t) (eqb (getD (s .rows32) (t * row32) 0) (code Pc.Idle)) _ _ (stays 21 (omega arith) (λ q. omega arith) (λ q. omega arith) refl) (takes-turn g s z t ht flag clock (leb-false _ _ e)))
 
 -- every step
 pub step-turn : (g : Settings) (s : State) (t : ℕ) (flag : Bool) (clock : ℕ) → Turn g s t (stepOf g s t flag clock)
 unfolding stepOf
 step-turn g s t flag clock =
-    pick-case (Turn g s t) (sizes s) _ _ (λ q. pick-case (Turn g s t) (ltb t threads) _ _ (λ h. in-turn g s (sized-of s q) t (ltb-true t threads h) flag clock) (λ _. stays 17 (omega arith) refl)) (λ _. stays 16 (omega arith) refl)
+    pick-case (Turn g s t) (sizes s) _ _ (λ q. pick-case (Turn g s t) (ltb t threads) _ _ (λ h. in-turn g s (sized-of s q) t (ltb-true t threads h) flag clock) (λ _. stays 17 (omega arith) (λ q. omega arith) (λ q. omega arith) refl)) (λ _. stays 16 (omega arith) (λ q. omega arith) (λ q. omega arith) refl)
 
 -- on whole tables no step answers 16 or 29
 module _ (g : Settings) (s : State) (z : Sized s) (fit : (t : ℕ) → t < threads → rowFits g (s .rows32) t ≡ true) (n : InRange (viewOf s)) (k : (t : ℕ) → t < threads → rowIn (viewOf s) t .place ≢ 0 → Whole g (viewOf s) t (rowIn (viewOf s) t)) (t : ℕ) (flag : Bool) (clock : ℕ) where

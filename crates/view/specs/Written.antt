@@ -221,3 +221,8 @@ module _ (s : Shared) (z : SizedCells s) (rs : List Row) (q : List (List ℕ)) (
 
   pub written-view : (c : Named) → InTable c → Fits c x → view (written s (address c) x) rs q ≡ put c x (view s rs q)
   written-view c h f = ap (λ (k : Cell). view (written s k x) rs q) (address-in c h) ∙ written-plain c h ∙ ap (λ (k : ℕ). put c k (view s rs q)) (cut-fits c f)
+
+-- what is no cell is written nowhere
+pub written-none : (s : Shared) → SizedCells s → (x : ℕ) → written s nothing x ≡ s
+unfolding written
+written-none s z x = λ i. shared (h0 s z [] [] x i) (c0 s z [] [] x i) (r0 s z [] [] x i) (b0 s z [] [] x i) (n0 s z [] [] x i)
