@@ -1,5 +1,4 @@
 -- Choice by a test: the one way in which the rules branch, and how a branch of the code meets it.
-use Prim.Native.Nat.{ℕ}
 use mathlib.Core.Path.{_≡_, sym, _∙_, refl}
 use mathlib.Core.Bool.{Bool, true, false, false≢true}
 use borrow.Author.Tests.{eq-eqb, ne-eqb, lt-ltb, le-ltb, le-leb, lt-leb}

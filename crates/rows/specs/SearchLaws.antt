@@ -1,5 +1,5 @@
 -- How a loop that goes up meets a definition that recurses on what is left: what is found where it stops, goes on, or ends.
-use Prim.Native.Nat.{ℕ, suc, _+_, _*_, _-_, _≤_, _<_}
+use Prim.Native.Nat.{ℕ, _+_, _*_, _≤_, _<_}
 use mathlib.Core.Path.{_≡_, refl, sym, ap, _∙_}
 use mathlib.Core.Bool.{Bool, true, false}
 use mathlib.Core.List.{List, [], _∷_}
@@ -8,9 +8,8 @@ use lib.Seq.{drop-cons}
 use lib.Dec.{eqb, ltb}
 use borrow.Author.Tests.{eq-eqb, ne-eqb, lt-ltb, le-ltb}
 use native.Mathlib.Numerals.{add-one}
-use native.Mathlib.Omega.{arith}
 use Rattle.base.specs.Pick.{pick, pick-yes, pick-no}
-use Rattle.base.specs.Searches.{Going, going, here, ends}
+use Rattle.base.specs.Searches.{Going, here, ends}
 use Rattle.rules.specs.Sizes.{threads}
 use Rattle.rules.specs.Rows.{within}
 use Rattle.rules.specs.Step.{untakenFrom}

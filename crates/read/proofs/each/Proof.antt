@@ -1,6 +1,5 @@
 -- `each` meets its contract. Assumes nothing.
 use borrow.Author.Needs.{needs}
-use native.Mathlib.Omega.{arith}
 use Rattle.read.proofs.each.Statement.{statement}
 use Rattle.read.proofs.each.Tie as tie
 

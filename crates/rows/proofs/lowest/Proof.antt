@@ -2,7 +2,7 @@
 use Prim.Native.Nat.{_-_}
 use Rattle.rows.proofs.lowest.Statement.{statement}
 use Rattle.rows.proofs.lowest.Tie as tie
-use Rattle.base.specs.Searches.{Going, going}
+use Rattle.base.specs.Searches.{Going}
 use Rattle.rows.specs.SearchLaws.{untaken-unused, untaken-damaged, untaken-on, untaken-out}
 use Rattle.rules.specs.Step.{untakenFrom}
 use borrow.Author.Needs.{needs}
