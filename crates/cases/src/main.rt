@@ -23,55 +23,15 @@ struct Progress {
     more: bool,
 }
 
-// The index of the first newline from `from` on, or the input's length.
-fn newline(input: &[u8], from: usize) -> usize
-    requires { ⌜ from ≤ length (now input) ⌝ }
-    ensures { λ e. ⌜ (from ≤ e) × (e ≤ length (now (input .entry))) ⌝ }
-{
-    let mut e = from;
-    while e < input.len() {
-        if input[e] == 10 {
-            return e;
-        }
-        e += 1;
-    }
-    e
-}
-
-// A part of a line goes behind what the buffer holds; 400 bytes are kept at the most.
+// A part of a line goes behind what the buffer holds, as far as there is room.
 fn keep(line: &mut [u8], len: usize, part: &[u8]) -> usize
     requires { ⌜ (len ≤ 400) × (length (now line) ≡ 400) ⌝ }
     ensures { λ r. ⌜ (r ≤ 400) × (length (now (line .exit)) ≡ 400) ⌝ }
 {
-    let mut k = len;
-    let mut i = 0usize;
-    while i < part.len() {
-        if k == 400 {
-            return 400;
-        }
-        line[k] = part[i];
-        k += 1;
-        i += 1;
-    }
-    k
+    texts::fill(line, len, part)
 }
 
-fn zero32(table: &mut [u32]) {
-    let mut i = 0usize;
-    while i < table.len() {
-        table[i] = 0;
-        i += 1;
-    }
-}
-
-fn zero64(table: &mut [u64]) {
-    let mut i = 0usize;
-    while i < table.len() {
-        table[i] = 0;
-        i += 1;
-    }
-}
-
+// All tables as in a fresh domain.
 fn fresh(
     heads: &mut [u32],
     counters: &mut [u64],
@@ -82,14 +42,14 @@ fn fresh(
     rows64: &mut [u64],
     guards: &mut [u64],
 ) {
-    zero32(heads);
-    zero64(counters);
-    zero32(records);
-    zero32(sources);
-    zero32(nodes);
-    zero32(rows32);
-    zero64(rows64);
-    zero64(guards);
+    tables::clear(heads);
+    bits::clear(counters);
+    tables::clear(records);
+    tables::clear(sources);
+    tables::clear(nodes);
+    tables::clear(rows32);
+    bits::clear(rows64);
+    bits::clear(guards);
 }
 
 // Whether the 20 bytes from `from` on are the answer line's.
@@ -506,7 +466,7 @@ fn run_block(
     let mut s = r;
     let mut i = 0usize;
     while i < input.len() {
-        let e = newline(input, i);
+        let e = bytes::scan::find(input, i, input.len(), b'\n');
         if e < input.len() {
             let after = e + 1;
             let part = &input[i..e];

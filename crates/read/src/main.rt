@@ -53,22 +53,7 @@ struct State {
     open: bool,
 }
 
-fn zero32(table: &mut [u32]) {
-    let mut i = 0usize;
-    while i < table.len() {
-        table[i] = 0;
-        i += 1;
-    }
-}
-
-fn zero64(table: &mut [u64]) {
-    let mut i = 0usize;
-    while i < table.len() {
-        table[i] = 0;
-        i += 1;
-    }
-}
-
+// All tables as in a fresh domain.
 fn fresh(
     heads: &mut [u32],
     counters: &mut [u64],
@@ -80,15 +65,15 @@ fn fresh(
     guards: &mut [u64],
     steps: &mut [u64],
 ) {
-    zero32(heads);
-    zero64(counters);
-    zero32(records);
-    zero32(sources);
-    zero32(nodes);
-    zero32(rows32);
-    zero64(rows64);
-    zero64(guards);
-    zero64(steps);
+    tables::clear(heads);
+    bits::clear(counters);
+    tables::clear(records);
+    tables::clear(sources);
+    tables::clear(nodes);
+    tables::clear(rows32);
+    bits::clear(rows64);
+    bits::clear(guards);
+    bits::clear(steps);
 }
 
 // The state with another output buffer, in which something was written.

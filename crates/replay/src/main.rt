@@ -20,39 +20,6 @@ struct Block {
     used: usize,
 }
 
-// The index of the first newline from `from` on, or the input's length.
-fn newline(input: &[u8], from: usize) -> usize
-    requires { ⌜ from ≤ length (now input) ⌝ }
-    ensures { λ e. ⌜ (from ≤ e) × (e ≤ length (now (input .entry))) ⌝ }
-{
-    let mut e = from;
-    while e < input.len() {
-        if input[e] == 10 {
-            return e;
-        }
-        e += 1;
-    }
-    e
-}
-
-// A part of a line goes behind what the buffer holds; 29 bytes are kept at the most, which is too long for a frame.
-fn keep(line: &mut [u8], len: usize, part: &[u8]) -> usize
-    requires { ⌜ (len ≤ 29) × (length (now line) ≡ 29) ⌝ }
-    ensures { λ r. ⌜ (r ≤ 29) × (length (now (line .exit)) ≡ 29) ⌝ }
-{
-    let mut k = len;
-    let mut i = 0usize;
-    while i < part.len() {
-        if k == 29 {
-            return 29;
-        }
-        line[k] = part[i];
-        k += 1;
-        i += 1;
-    }
-    k
-}
-
 // An answer line goes behind the bytes used.
 fn put(out: &mut [u8], used: usize, text: [u8; 21])
     requires { ⌜ used + 21 ≤ length (now out) ⌝ }
@@ -130,7 +97,7 @@ fn answer(
             number,
         );
     }
-    let n = keep(line, len, part);
+    let n = texts::fill(line, len, part);
     run_kept(
         heads,
         counters,
@@ -170,7 +137,7 @@ fn run_block(
     let mut used = 0usize;
     let mut i = 0usize;
     while i < input.len() {
-        let e = newline(input, i);
+        let e = bytes::scan::find(input, i, input.len(), b'\n');
         if e < input.len() {
             let part = &input[i..e];
             let text = answer(
@@ -194,7 +161,7 @@ fn run_block(
             i = e + 1;
         } else {
             let part = &input[i..e];
-            k = keep(line, k, part);
+            k = texts::fill(line, k, part);
             i = e;
         }
     }
@@ -359,6 +326,7 @@ fn main() {
     let mut rows32 = [0u32; 336];
     let mut rows64 = [0u64; 80];
     let mut guards = [0u64; 1024];
+    // A line's first 29 bytes are kept, which are too many for a frame.
     let mut line = [0u8; 29];
     let mut input = [0u8; 16384];
     let mut out = [0u8; 344064];

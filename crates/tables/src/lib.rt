@@ -316,7 +316,8 @@ fn cell_if(c: Cell, writes: bool) -> Cell
     }
 }
 
-fn clear(t: &mut [u32])
+// Every word becomes 0.
+pub fn clear(t: &mut [u32])
     ensures { λ _. ⌜ now (t .exit) ≡ replicate (length (now (t .entry))) 0 ⌝ }
 {
     for i in 0..t.len() {

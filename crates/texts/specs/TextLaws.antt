@@ -2,8 +2,8 @@
 use Prim.Native.Nat.{ℕ, zero, suc, _+_, _-_, _/_, _%_, _≤_, _<_}
 use mathlib.Core.Path.{_≡_, refl, sym, ap, _∙_}
 use mathlib.Core.List.{List, [], _∷_, _++_}
-use lib.ListN.{length, getD, set, drop, length-append, drop-of-length-le}
-use lib.Seq.{drop-cons, sets, set-comm}
+use lib.ListN.{length, getD, set, take, drop, length-append, drop-of-length-le}
+use lib.Seq.{drop-cons, take-all, length-take-le, sets, set-comm}
 use borrow.Author.Tests.{lt-ltb, le-ltb}
 use native.Mathlib.Numerals.{add-one}
 use native.Mathlib.Nat.{add-zero}
@@ -82,6 +82,34 @@ module _ (o : List ℕ) (at : ℕ) (bytes : List ℕ) where
 
   pub copying-all : (l : List ℕ) (i : ℕ) → Copying o at bytes l i → length bytes ≤ i → l ≡ sets o at bytes
   copying-all l i w h = sym (w ∙ ap (λ (v : List ℕ). sets l (at + i) v) (drop-of-length-le bytes h))
+
+-- ---- as many of the bytes as there is room for
+abbrev pub Filled : List ℕ → ℕ → List ℕ → List ℕ → ℕ → Type 0
+Filled o at bytes l r = (l ≡ sets o at (take (length o - at) bytes)) × (r ≡ at + length (take (length o - at) bytes)) × (r ≤ at + (length o - at))
+
+module _ (o : List ℕ) (at : ℕ) (bytes : List ℕ) where
+  pub filled-none : length o ≤ at → Filled o at bytes o at
+  filled-none h = let z : length o - at ≡ 0 = omega arith in rw z (refl, sym (add-zero at), omega arith)
+
+  pub filled-all : (l : List ℕ) (r : ℕ) → (l ≡ sets o at bytes) × (r ≡ at + length bytes) → length bytes ≤ length o - at → Filled o at bytes l r
+  filled-all l r s h = rw (take-all (length o - at) bytes h) (s .0, s .1, omega (arith, s .1, h))
+
+  -- the part that there is room for, as it is cut out
+  abbrev part : ℕ → List ℕ
+  part n = take (n - 0) bytes
+
+  cut : (n : ℕ) → part n ≡ take n bytes
+  cut n = ap (λ (k : ℕ). take k bytes) (let z : n - 0 ≡ n = omega arith in z)
+
+  pub part-fits : at < length o → length o - at < length bytes → at + length (part (length o - at)) ≤ length o
+  part-fits p h = rw cut (omega (arith, p, length-take-le (length o - at) bytes (omega arith)))
+
+  pub filled-some : (l : List ℕ) (r : ℕ) → (l ≡ sets o at (part (length o - at))) × (r ≡ at + length (part (length o - at))) → length o - at < length bytes → Filled o at bytes l r
+  filled-some l r s h =
+      let e = cut (length o - at) in
+      let w = length-take-le (length o - at) bytes (omega arith) in
+      let x : r ≡ at + length (take (length o - at) bytes) = s .1 ∙ ap (λ (p : List ℕ). at + length p) e in
+      (s .0 ∙ ap (sets o at) e, x, omega (arith, x, w))
 
 -- ---- what was written, and the index after it
 pub decimal-stands : (o l : List ℕ) (at n x : ℕ) → l ≡ sets o at (digitsOf n x) → (n ≡ widthOf 19 x) × (n ≤ 20) → (l ≡ sets o at (decimalOf x)) × (at + n ≡ at + length (decimalOf x)) × (at + n ≤ at + 20)

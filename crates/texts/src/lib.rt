@@ -1,7 +1,7 @@
 // Words and decimal numbers as bytes, written into a lent slice from an index on.
 ghost use mathlib.Core.Path.{_≡_};
-ghost use Prim.Native.Nat.{_+_, _≤_, _<_};
-ghost use lib.ListN.{length};
+ghost use Prim.Native.Nat.{_+_, _-_, _≤_, _<_};
+ghost use lib.ListN.{length, take};
 ghost use mathlib.Core.List.{[], _∷_, _++_};
 ghost use lib.Seq.{sets};
 ghost use Rattle.texts.specs.Texts.{widthOf, digitsOf, decimalOf, signedOf, lineOf, signedLineOf, fieldLineOf};
@@ -76,6 +76,22 @@ pub fn word(out: &mut [u8], at: usize, bytes: &[u8]) -> usize
         i += 1;
     }
     at + i
+}
+
+// As many of the bytes as there is room for are written from at on; the index after them.
+pub fn fill(out: &mut [u8], at: usize, bytes: &[u8]) -> usize
+    ensures { λ r. ⌜ (now (out .exit) ≡ sets (now (out .entry)) at (take (length (now (out .entry)) - at) (now (bytes .entry)))) × (r ≡ at + length (take (length (now (out .entry)) - at) (now (bytes .entry)))) × (r ≤ at + (length (now (out .entry)) - at)) ⌝ }
+{
+    if out.len() <= at {
+        return at;
+    }
+    let room = out.len() - at;
+    if bytes.len() <= room {
+        return word(out, at, bytes);
+    }
+    let from = 0usize;
+    let part = &bytes[from..room];
+    word(out, at, part)
 }
 
 fn newline(out: &mut [u8], at: usize) -> usize

@@ -43,39 +43,6 @@ struct Block {
     open: bool,
 }
 
-// The index of the first newline from `from` on, or the input's length.
-fn newline(input: &[u8], from: usize) -> usize
-    requires { ⌜ from ≤ length (now input) ⌝ }
-    ensures { λ e. ⌜ (from ≤ e) × (e ≤ length (now (input .entry))) ⌝ }
-{
-    let mut e = from;
-    while e < input.len() {
-        if input[e] == 10 {
-            return e;
-        }
-        e += 1;
-    }
-    e
-}
-
-// A part of a line goes behind what the buffer holds; 29 bytes are kept at the most, which is too long for a frame.
-fn keep(line: &mut [u8], len: usize, part: &[u8]) -> usize
-    requires { ⌜ (len ≤ 29) × (length (now line) ≡ 29) ⌝ }
-    ensures { λ r. ⌜ (r ≤ 29) × (length (now (line .exit)) ≡ 29) ⌝ }
-{
-    let mut k = len;
-    let mut i = 0usize;
-    while i < part.len() {
-        if k == 29 {
-            return 29;
-        }
-        line[k] = part[i];
-        k += 1;
-        i += 1;
-    }
-    k
-}
-
 // Room for a line: the buffer is written out where less is left.
 fn room(out: &[u8], o: Out) -> Out
     requires { ⌜ (128 ≤ length (now out)) × (o .used ≤ length (now out)) ⌝ }
@@ -413,7 +380,7 @@ fn answer(
             number,
         );
     }
-    let n = keep(line, len, part);
+    let n = texts::fill(line, len, part);
     run_kept(
         heads,
         counters,
@@ -522,10 +489,10 @@ fn run_block(
     };
     let mut i = 0usize;
     while i < input.len() {
-        let e = newline(input, i);
+        let e = bytes::scan::find(input, i, input.len(), b'\n');
         let part = &input[i..e];
         if e == input.len() {
-            let kept = keep(line, k, part);
+            let kept = texts::fill(line, k, part);
             return Block {
                 len: kept,
                 number: n,
@@ -760,6 +727,7 @@ fn main() {
     let mut seen_records = [0u32; 4096];
     let mut seen_sources = [0u32; 64];
     let mut seen_nodes = [0u32; 8192];
+    // A line's first 29 bytes are kept, which are too many for a frame.
     let mut line = [0u8; 29];
     let mut input = [0u8; 16384];
     let mut out = [0u8; 65536];
