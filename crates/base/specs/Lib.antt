@@ -1,3 +1,4 @@
 pub mod Pick
 pub mod Arms
 pub mod Searches
+pub mod Clears

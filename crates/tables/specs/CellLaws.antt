@@ -2,10 +2,8 @@
 use Prim.Native.Nat.{ℕ, _+_, _*_, _%_, _^_, _≤_, _<_}
 use mathlib.Core.Path.{_≡_, refl, sym, ap, _∙_}
 use mathlib.Core.Bool.{Bool, true, false}
-use mathlib.Core.List.{List, [], _∷_, _++_, append-nil}
-use lib.ListN.{length, getD, set, drop, replicate, List·getD-eq-default}
-use lib.Seq.{drop-length}
-use borrow.Author.Fill.{fill-more}
+use mathlib.Core.List.{List, [], _∷_}
+use lib.ListN.{length, getD, set, replicate, List·getD-eq-default}
 use native.Mathlib.Nat.{mul-le-mul-right}
 use native.Mathlib.Omega.{arith}
 use Rattle.base.specs.Pick.{pick}
@@ -42,16 +40,6 @@ addressed r n m e p = p ∙ sym (ap address e)
 
 pub accessed-by : (r : Cell) (a b : Access) → a ≡ b → r ≡ accessed b → r ≡ accessed a
 accessed-by r a b e p = p ∙ sym (ap accessed e)
-
--- ---- a table that is cleared: i of its words are, and t is the rest as it was
-module _ (t₀ t : List ℕ) (i : ℕ) (v : t ≡ replicate i 0 ++ drop i t₀) where
-  pub filled-more : i < length t₀ → set t i 0 ≡ replicate (i + 1) 0 ++ drop (i + 1) t₀
-  filled-more h = ap (λ (l : List ℕ). set l i 0) v ∙ fill-more i 0 t₀ h
-
-  pub filled-all : length t₀ ≤ i → i ≤ length t₀ → t ≡ replicate (length t₀) 0
-  filled-all h q =
-      let e : i ≡ length t₀ = omega arith in
-      v ∙ ap (λ (k : ℕ). replicate k 0 ++ drop k t₀) e ∙ ap (λ (l : List ℕ). replicate (length t₀) 0 ++ l) (drop-length t₀) ∙ append-nil _
 
 -- ---- five tables
 pub wrote : (h k r q n h′ k′ r′ q′ n′ : List ℕ) (c : Cell) (v : ℕ) → h′ ≡ set h (atIn c heads) (v % 2 ^ 32) → k′ ≡ set k (atIn c counters) v → r′ ≡ set r (atIn c inRecords) (v % 2 ^ 32) → q′ ≡ set q (atIn c inSources) (v % 2 ^ 32) → n′ ≡ set n (atIn c inNodes) (v % 2 ^ 32) → shared h′ k′ r′ q′ n′ ≡ written (shared h k r q n) c v

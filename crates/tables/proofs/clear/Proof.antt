@@ -2,7 +2,7 @@
 use Prim.Native.Nat.{_-_, _≤_}
 use Rattle.tables.proofs.clear.Statement.{statement}
 use Rattle.tables.proofs.clear.Tie as tie
-use Rattle.tables.specs.CellLaws.{filled-more, filled-all}
+use Rattle.base.specs.Clears.{clears-more, clears-all}
 use borrow.Author.Fill.{fill-none}
 use lib.ListN.{length, drop, replicate, length-set}
 use mathlib.Core.List.{_++_}
@@ -19,7 +19,7 @@ loop-holds : tie.Need-loop-holds Inv-loop μ-loop
 loop-holds c = (omega arith, refl, fill-none _ 0)
 
 loop-again : tie.Need-loop-again Inv-loop μ-loop
-loop-again c = (omega arith, simp length-set (c .before .loop .inv .1), search filled-more)
+loop-again c = (omega arith, simp length-set (c .before .loop .inv .1), search clears-more)
 
 pub clear-spec : {M : Type 1} → statement M
 clear-spec =
@@ -34,4 +34,4 @@ clear-spec =
     (λ c. omega arith)
     loop-again
     (λ c. omega arith)
-    (λ c. search filled-all))
+    (λ c. search clears-all))
