@@ -18,7 +18,7 @@ use Rattle.view.specs.Begin.{Begin, start-begin}
 abbrev pub StartKeeps : Settings → Type 0
 StartKeeps g = (s : State) (t : ℕ) (o : Operation) → 16 ≤ startOf g s t o .answer .number → startOf g s t o .state ≡ s
 
--- 2. A step that is refused with any other number.
+-- 2. A step that is refused, but not with 25 or 26.
 abbrev pub StepKeeps : Settings → Type 0
 StepKeeps g = (s : State) (t : ℕ) (flag : Bool) (clock : ℕ) → 16 ≤ stepOf g s t flag clock .answer .number → stepOf g s t flag clock .answer .number ≢ 25 → stepOf g s t flag clock .answer .number ≢ 26 → stepOf g s t flag clock .state ≡ s
 
