@@ -5,7 +5,7 @@
 // more. Of any other line the last 21 bytes are a blank and the expected answer, and what stands before them is the
 // line of the replay, whatever its bytes. A last line without newline is run as one. After the first difference the
 // rest of a case is passed over.
-ghost use Prim.Native.Nat.{_+_, _*_, _≤_, _<_};
+ghost use Prim.Native.Nat.{_+_, _≤_};
 ghost use lib.ListN.{length};
 ghost use mathlib.Core.Path.{_≡_};
 use libc::STDIN_FILENO;

@@ -1,6 +1,6 @@
 // A thread's guarded set: its words are the part of the shared table that begins at word 64 x thread.
 ghost use mathlib.Core.Path.{_≡_};
-ghost use Prim.Native.Nat.{_+_, _*_, _≤_, _<_};
+ghost use Prim.Native.Nat.{_<_};
 ghost use lib.ListN.{length};
 ghost use Rattle.rules.specs.Step.{guarded, guardsOf, guardsGiven};
 ghost use Rattle.rules.specs.Words.{isGuarded};

@@ -4,7 +4,7 @@ ghost use Prim.Native.Nat.{_<_};
 ghost use lib.ListN.{length};
 ghost use Rattle.base.specs.Pick.{both};
 ghost use Rattle.rules.specs.Sizes.{base};
-ghost use Rattle.rules.specs.Step.{shared, state, seen, readBy, judge, judged, lookBy, lookOf};
+ghost use Rattle.rules.specs.Step.{shared, seen, readBy, judge, judged, lookBy, lookOf};
 use crate::guards::guarded_at;
 use rules::Cell;
 use rules::Effect;

@@ -1,5 +1,4 @@
 // The output, through a buffer.
-ghost use Prim.Native.Nat.{_≤_};
 use crate::text::byte;
 use crate::text::put;
 use crate::text::shorter;

@@ -1,5 +1,5 @@
 // Runs a replay: standard input to standard output, in blocks. What a line does is the library's; this moves bytes.
-ghost use Prim.Native.Nat.{_+_, _*_, _≤_, _<_};
+ghost use Prim.Native.Nat.{_+_, _*_, _≤_};
 ghost use lib.ListN.{length};
 ghost use mathlib.Core.Path.{_≡_};
 use libc::STDIN_FILENO;

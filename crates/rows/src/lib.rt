@@ -1,6 +1,6 @@
 // A thread's row in its two tables, and the searches of the lent tables.
 ghost use mathlib.Core.Path.{_≡_};
-ghost use Prim.Native.Nat.{_+_, _*_, _-_, _<_};
+ghost use Prim.Native.Nat.{_+_, _*_, _<_};
 ghost use lib.ListN.{length};
 ghost use Rattle.rules.specs.Sizes.{base, row32, row64, threads};
 ghost use Rattle.rules.specs.Rows.{rowAt, storedFrom, stored32, stored64, rowFits};

@@ -1,14 +1,10 @@
 // What a start refuses, by document 01's numbers; 0 for none.
 ghost use mathlib.Core.Path.{_≡_};
-ghost use Rattle.rules.specs.Step.{atIn};
-ghost use Rattle.rules.specs.Start.{orElse, notOwned, notSource, notNode, retireBy, notRetirable, busyBy, busy, refusal, refuseBy, narrow};
-ghost use Rattle.rules.specs.Cells;
+ghost use Rattle.rules.specs.Start.{orElse, notOwned, notSource, notNode, retireBy, notRetirable, busyBy, busy, refusal, refuseBy, refuseOf, narrow};
 ghost use Rattle.rules.specs.Step.{shared};
-ghost use Rattle.rules.specs.Start.{refuseOf};
 ghost use Rattle.base.specs.Pick.{pick};
 ghost use lib.Dec.{eqb};
-ghost use Prim.Native.Nat.{_+_, _%_, _^_};
-use rules::Cell;
+ghost use Prim.Native.Nat.{_+_};
 use rules::NODES;
 use rules::Named;
 use rules::Operation;
