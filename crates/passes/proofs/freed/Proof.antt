@@ -8,4 +8,4 @@ freed-spec =
     tie.close
     (tie.spec
     (λ c κs. search needs)
-    (λ c. cc))
+    (λ c. rw (c .wrapping-add-u64 .ensures)))

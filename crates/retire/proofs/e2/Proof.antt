@@ -9,4 +9,4 @@ e2-spec =
     (tie.spec
     (λ c κs. search needs)
     (λ c κs. search needs)
-    (λ c. cc))
+    (λ c. rw (c .e2-by .ensures, c .before .due-time .ensures)))
