@@ -136,7 +136,7 @@ fn reclaimed_by(r: Row, rest: u32, on: Row) -> Row
     r
 }
 
-// A node was freed.
+// One node more in the total that the operation answers.
 pub fn freed(r: Row) -> Row
     ensures { λ s. ⌜ s ≡ freed r ⌝ }
 {

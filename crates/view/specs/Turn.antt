@@ -252,15 +252,15 @@ module _ (g : Settings) (s : State) (z : Sized s) (t : ℕ) (ht : t < threads) (
   unfolding viewOf
   soon = hk
 
+  stop : (n : ℕ) → (p ≡ Pc.N1) ⊎ (p ≡ Pc.Swap) → (n ≡ 25) ⊎ (n ≡ 26) → Turn g s t (out (answer n 0) (given s t c (ends n)))
+  stop n w q = stops n q (where-is w) soon ht refl (view-given s z t ht (accesses p R) (ends n) quiet) (sized-given s z t ht (accesses p R) (ends n) quiet) (given-ends s z t c n)
+    where
+      quiet : Sound (accesses p R) (ends n)
+      quiet = record { reach = λ x. absurd (false≢true x); put = λ x. absurd (false≢true x); also = tt; to = tt; stolen = refl }
+
   stopped : (b : Bool) (n : ℕ) → (p ≡ Pc.N1) ⊎ (p ≡ Pc.Swap) → (n ≡ 25) ⊎ (n ≡ 26) → Turn g s t (takeBy s t c (judge R b (ends n)))
-  stopped b n w (inl q) = subst (λ (m : ℕ). Turn g s t (takeBy s t c (judge R b (ends m)))) (sym q) (stops 25 (inl refl) (where-is w) soon ht refl (view-given s z t ht (accesses p R) (ends 25) quiet) (sized-given s z t ht (accesses p R) (ends 25) quiet) (given-ends s z t c 25))
-    where
-      quiet : Sound (accesses p R) (ends 25)
-      quiet = record { reach = λ x. absurd (false≢true x); put = λ x. absurd (false≢true x); also = tt; to = tt; stolen = refl }
-  stopped b n w (inr q) = subst (λ (m : ℕ). Turn g s t (takeBy s t c (judge R b (ends m)))) (sym q) (stops 26 (inr refl) (where-is w) soon ht refl (view-given s z t ht (accesses p R) (ends 26) quiet) (sized-given s z t ht (accesses p R) (ends 26) quiet) (given-ends s z t c 26))
-    where
-      quiet : Sound (accesses p R) (ends 26)
-      quiet = record { reach = λ x. absurd (false≢true x); put = λ x. absurd (false≢true x); also = tt; to = tt; stolen = refl }
+  stopped b n w (inl q) = subst (λ (m : ℕ). Turn g s t (takeBy s t c (judge R b (ends m)))) (sym q) (stop 25 w (inl refl))
+  stopped b n w (inr q) = subst (λ (m : ℕ). Turn g s t (takeBy s t c (judge R b (ends m)))) (sym q) (stop 26 w (inr refl))
 
   -- neither 25 nor 26: what is judged is judged by its fitting
   judge-plain : (b : Bool) (d : Effect) → Plain d → judge R b d ≡ pick b d (damaged R)
