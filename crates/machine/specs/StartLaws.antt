@@ -2,25 +2,27 @@
 use Prim.Native.Nat.{ℕ, _≤_, _<_}
 use mathlib.Core.Path.{_≡_, ap, sym, _∙_}
 use mathlib.Core.Bool.{Bool, true, false}
-use mathlib.Core.List.{List}
+use mathlib.Core.List.{List, []}
 use borrow.Author.Tests.{eq-eqb, ne-eqb}
 use Rattle.base.specs.Pick.{pick-yes, pick-no}
 use Rattle.rules.specs.Sizes.{threads, Settings}
 use Rattle.rules.specs.Cells.{address}
-use Rattle.rules.specs.Rows.{stored32, stored64}
-use Rattle.rules.specs.Step.{Shared, shared, State, state, Out, out, answer, refused, sizes, written}
+use Rattle.rules.specs.Step.{State, state, lent, Out, out, answer, refused, sizes, written}
 use Rattle.rules.specs.Start.{begins, refuseOf, entered, ofNull, startBy, startIn, startOf}
 use Rattle.rules.specs.declared.Cell.{Cell}
+use Rattle.tables.specs.PartLaws.{onCells}
+use Rattle.rows.specs.RowLaws.{withRow}
 use Rattle.machine.specs.StepLaws.{sized-16, sized-17, sized-on}
 use Rattle.rules.specs.declared.Operation.{Operation}
 use Rattle.rules.specs.declared.Entry.{Entry}
 
--- what a start writes, put together; the guarded sets g are not lent
-pub has-entered : (s : Shared) (x y : List ℕ) (t : ℕ) (e : Entry) (c : Cell) (h k r q n a b g : List ℕ) → shared h k r q n ≡ written s c (e .put) → c ≡ address (e .cell) → a ≡ stored32 x t (e .row) → b ≡ stored64 y t (e .row) → state (shared h k r q n) a b g ≡ entered (state s x y g) t e
-unfolding entered
-has-entered s x y t e c h k r q n a b g p u v w = λ i. state ((p ∙ ap (λ (d : Cell). written s d (e .put)) u) i) (v i) (w i) g
+-- what a start writes, put together: a cell, then the row; the guarded sets g are not lent
+pub has-entered : (i n m w : List ℕ) (t : ℕ) (e : Entry) (c : Cell) (i₁ n₁ m₁ w₁ i′ w′ : List ℕ) → lent i₁ n₁ m₁ w₁ [] ≡ onCells (λ x. written x c (e .put)) (lent i n m w []) → c ≡ address (e .cell) → ((n m g : List ℕ) → lent i′ n m w′ g ≡ withRow t (e .row) (lent i₁ n m w₁ g)) → (g : List ℕ) → lent i′ n₁ m₁ w′ g ≡ entered (lent i n m w g) t e
+unfolding lent withRow entered
+has-entered i n m w t e c i₁ n₁ m₁ w₁ i′ w′ p u q g =
+    q n₁ m₁ g ∙ λ j. withRow t (e .row) (let x = (p ∙ ap (λ (d : Cell). onCells (λ y. written y d (e .put)) (lent i n m w [])) u) j in state (x .cells) (x .rows32) (x .rows64) g)
 
-module _ (g : Settings) (s : State) (t : ℕ) (o : Operation) (n : ℕ) (e : Entry) (p : n ≡ refuseOf (s .cells) (s .rows32) t o) (q : e ≡ begins g o) where
+module _ (g : Settings) (s : State) (t : ℕ) (o : Operation) (n : ℕ) (e : Entry) (p : n ≡ refuseOf s t o) (q : e ≡ begins g o) where
   begins-by : startBy s t n e ≡ startIn g s t o
   unfolding startIn
   begins-by = λ i. startBy s t (p i) (q i)

@@ -4,7 +4,7 @@ ghost use Prim.Native.Nat.{_<_};
 ghost use lib.ListN.{length};
 ghost use Rattle.base.specs.Pick.{both};
 ghost use Rattle.rules.specs.Sizes.{base};
-ghost use Rattle.rules.specs.Step.{shared, seen, readBy, judge, judged, lookBy, lookOf};
+ghost use Rattle.rules.specs.Step.{lent, seen, readBy, judge, judged, lookBy, lookOf};
 use crate::guards::guarded_at;
 use rules::Cell;
 use rules::Effect;
@@ -29,11 +29,10 @@ fn seen(x: u64, y: u64, untaken: u32, guarded: bool, t: u32, flag: bool, clock: 
 
 // The row's step reads its cell c, and l beside it.
 fn read(
-    heads: &[u32],
-    counters: &[u64],
-    records: &[u32],
-    sources: &[u32],
-    nodes: &[u32],
+    ids: &[u32],
+    next: &[u32],
+    state: &[u32],
+    words: &[u64],
     guards: &[u64],
     t: u32,
     flag: bool,
@@ -44,10 +43,10 @@ fn read(
     untaken: u32,
 ) -> Seen
     requires { ⌜ (t < 16) × (length (now guards) ≡ 1024) ⌝ }
-    ensures { λ i. ⌜ i ≡ readBy (shared (now (heads .entry)) (now (counters .entry)) (now (records .entry)) (now (sources .entry)) (now (nodes .entry))) (now (guards .entry)) t flag clock r c l untaken ⌝ }
+    ensures { λ i. ⌜ i ≡ readBy (lent (now (ids .entry)) (now (next .entry)) (now (state .entry)) (now (words .entry)) (now (guards .entry))) t flag clock r c l untaken ⌝ }
 {
-    let x = tables::fetch(heads, counters, records, sources, nodes, c);
-    let y = tables::fetch(heads, counters, records, sources, nodes, l);
+    let x = tables::fetch(ids, next, state, words, c);
+    let y = tables::fetch(ids, next, state, words, l);
     let guarded = guarded_at(guards, t, places::first(r));
     seen(x, y, untaken, guarded, t, flag, clock)
 }
@@ -98,12 +97,10 @@ fn judged(r: Row, fits: bool, c: Cell, l: Cell, i: Seen, e: Effect) -> Effect
 }
 
 fn look_by(
-    heads: &[u32],
-    counters: &[u64],
-    records: &[u32],
-    sources: &[u32],
-    nodes: &[u32],
-    rows32: &[u32],
+    ids: &[u32],
+    next: &[u32],
+    state: &[u32],
+    words: &[u64],
     guards: &[u64],
     t: u32,
     flag: bool,
@@ -114,15 +111,14 @@ fn look_by(
     untaken: u32,
 ) -> Effect
     requires { ⌜ (t < 16) × (length (now guards) ≡ 1024) ⌝ }
-    ensures { λ e. ⌜ e ≡ lookBy base (shared (now (heads .entry)) (now (counters .entry)) (now (records .entry)) (now (sources .entry)) (now (nodes .entry))) (now (rows32 .entry)) (now (guards .entry)) t flag clock r c l untaken ⌝ }
+    ensures { λ e. ⌜ e ≡ lookBy base (lent (now (ids .entry)) (now (next .entry)) (now (state .entry)) (now (words .entry)) (now (guards .entry))) t flag clock r c l untaken ⌝ }
 {
-    let fits = rows::row_fits(rows32, t);
+    let fits = rows::row_fits(ids, t);
     let i = read(
-        heads,
-        counters,
-        records,
-        sources,
-        nodes,
+        ids,
+        next,
+        state,
+        words,
         guards,
         t,
         flag,
@@ -137,12 +133,10 @@ fn look_by(
 
 // What the step of a thread with this row does.
 pub fn look(
-    heads: &[u32],
-    counters: &[u64],
-    records: &[u32],
-    sources: &[u32],
-    nodes: &[u32],
-    rows32: &[u32],
+    ids: &[u32],
+    next: &[u32],
+    state: &[u32],
+    words: &[u64],
     guards: &[u64],
     t: u32,
     flag: bool,
@@ -150,18 +144,16 @@ pub fn look(
     r: Row,
 ) -> Effect
     requires { ⌜ (t < 16) × (length (now guards) ≡ 1024) ⌝ }
-    ensures { λ e. ⌜ e ≡ lookOf base (shared (now (heads .entry)) (now (counters .entry)) (now (records .entry)) (now (sources .entry)) (now (nodes .entry))) (now (rows32 .entry)) (now (guards .entry)) t flag clock r ⌝ }
+    ensures { λ e. ⌜ e ≡ lookOf base (lent (now (ids .entry)) (now (next .entry)) (now (state .entry)) (now (words .entry)) (now (guards .entry))) t flag clock r ⌝ }
 {
-    let untaken = rows::untaken(records, r.place);
+    let untaken = rows::untaken(ids, r.place);
     let c = tables::accessed(places::access(r));
     let l = tables::address(places::follow(r, untaken));
     look_by(
-        heads,
-        counters,
-        records,
-        sources,
-        nodes,
-        rows32,
+        ids,
+        next,
+        state,
+        words,
         guards,
         t,
         flag,

@@ -1,17 +1,16 @@
--- The loops that copy a row's words between a table and an array.
+-- The loop that copies a row's words from a table into an array.
 use Prim.Native.Nat.{ℕ, _+_, _*_, _≤_, _<_}
 use mathlib.Core.Path.{_≡_, sym, ap, _∙_}
 use mathlib.Core.Bool.{true}
 use mathlib.Core.List.{List}
-use lib.ListN.{length, getD, set, drop, drop-of-length-le}
-use lib.Seq.{drop-cons, getD-set-same, getD-set-other}
+use lib.ListN.{length, getD, set}
+use lib.Seq.{getD-set-same, getD-set-other}
 use lib.Dec.{ltb}
 use borrow.Author.Tests.{ltb-true}
 use native.Mathlib.Decide.{ℕ-discrete}
-use native.Mathlib.Numerals.{add-one}
 use native.Mathlib.Omega.{arith}
 use Rattle.rules.specs.Sizes.{row32, row64}
-use Rattle.rules.specs.Rows.{rowFrom, rowAt, storedFrom}
+use Rattle.rules.specs.Rows.{rowFrom, rowAt}
 
 -- the first i words of w are those of l from b on
 unfoldable pub Copied : List ℕ → List ℕ → ℕ → ℕ → Type 0
@@ -33,25 +32,6 @@ module _ (w l : List ℕ) (b : ℕ) where
   pub copied-all : (i n : ℕ) → Copied w l b i → n ≤ i → Copied w l b n
   unfolding Copied
   copied-all i n v h k q = v k (omega arith)
-
--- the first i words of ws are stored in t, and the others are to be, from b on
-abbrev pub Storing : List ℕ → ℕ → List ℕ → List ℕ → ℕ → Type 0
-Storing l b ws t i = storedFrom l b ws ≡ storedFrom t (b + i) (drop i ws)
-
-module _ (l : List ℕ) (b : ℕ) (ws : List ℕ) where
-  pub storing-none : Storing l b ws l 0
-  storing-none = ap (λ (k : ℕ). storedFrom l k ws) (let q : b ≡ b + 0 = omega arith in q)
-
-  pub storing-more : (t t′ : List ℕ) (i : ℕ) → Storing l b ws t i → i < length ws → t′ ≡ set t (b + i) (getD ws i 0) → Storing l b ws t′ (i + 1)
-  unfolding storedFrom
-  storing-more t t′ i v h e =
-      v
-      ∙ ap (storedFrom t (b + i)) (drop-cons ws i 0 h)
-      ∙ λ j. storedFrom (sym e j) ((let q : b + i + 1 ≡ b + (i + 1) = omega arith in q) j) (drop (sym (add-one i) j) ws)
-
-  pub storing-all : (t : List ℕ) (i : ℕ) → Storing l b ws t i → length ws ≤ i → t ≡ storedFrom l b ws
-  unfolding storedFrom
-  storing-all t i v h = sym (v ∙ ap (storedFrom t (b + i)) (drop-of-length-le ws h))
 
 -- a row is made of the words that were copied
 pub loaded : (a d l m : List ℕ) (t : ℕ) → Copied a l (t * row32) row32 → Copied d m (t * row64) row64 → rowFrom a 0 d 0 ≡ rowAt l m t

@@ -11,36 +11,11 @@ use borrow.Author.Tests.{ltb-true}
 use native.Mathlib.Decide.{decLt}
 use native.Mathlib.Nat.{mul-le-mul-right, suc-mul}
 use native.Mathlib.Omega.{arith}
-use Rattle.rules.specs.Sizes.{row32, row64, threads}
+use Rattle.rules.specs.Sizes.{records, sources, row32, row64, threads, headCells, counterCells, fromSources, fromRecords, fromRows}
 use Rattle.rules.specs.Rows.{rowAt, words32, words64, storedFrom, stored32, stored64}
 use Rattle.rules.specs.declared.Row.{Row}
-
--- ---- any words ws stored from b on
-pub stored-length : (ws l : List ℕ) (b : ℕ) → length (storedFrom l b ws) ≡ length l
-unfolding storedFrom
-stored-length [] l b = refl
-stored-length (w ∷ ws) l b = stored-length ws (set l b w) (b + 1) ∙ length-set l b w
-
-pub stored-below : (ws l : List ℕ) (b i : ℕ) → i < b → getD (storedFrom l b ws) i 0 ≡ getD l i 0
-unfolding storedFrom
-stored-below [] l b i h = refl
-stored-below (w ∷ ws) l b i h = stored-below ws (set l b w) (b + 1) i (omega arith) ∙ getD-set-other l b i w 0 (omega arith)
-
-pub stored-above : (ws l : List ℕ) (b i : ℕ) → b + length ws ≤ i → getD (storedFrom l b ws) i 0 ≡ getD l i 0
-unfolding storedFrom
-stored-above [] l b i h = refl
-stored-above (w ∷ ws) l b i h = stored-above ws (set l b w) (b + 1) i (omega arith) ∙ getD-set-other l b i w 0 (omega arith)
-
-pub stored-at : (ws l : List ℕ) (b j : ℕ) → b + length ws ≤ length l → j < length ws → getD (storedFrom l b ws) (b + j) 0 ≡ getD ws j 0
-unfolding storedFrom
-stored-at [] l b j h q = omega arith
-stored-at (w ∷ ws) l b zero h q =
-    stored-below ws (set l b w) (b + 1) (b + 0) (omega arith)
-    ∙ ap (λ (i : ℕ). getD (set l b w) i 0) (let e : b + 0 ≡ b = omega arith in e)
-    ∙ getD-set-same l b w 0 (omega arith)
-stored-at (w ∷ ws) l b (suc j) h q =
-    ap (λ (i : ℕ). getD (storedFrom (set l b w) (b + 1) ws) i 0) (let e : b + suc j ≡ b + 1 + j = omega arith in e)
-    ∙ stored-at ws (set l b w) (b + 1) j (omega (arith, length-set l b w)) (omega arith)
+use Rattle.rules.specs.Step.{State, shared, state, lent}
+use Rattle.tables.specs.StoredLaws.{stored-length, stored-below, stored-above, stored-at, stored-drop, stored-part}
 
 -- ---- rows of w words: thread t's is stored, and thread u's is as it was
 module _ (ws l : List ℕ) (w t u j : ℕ) where
@@ -88,3 +63,25 @@ module _ (l m : List ℕ) (t u : ℕ) (r : Row) (ne : u ≢ t) where
   pub load-else : rowAt (stored32 l t r) (stored64 m t r) u ≡ rowAt l m u
   unfolding rowAt
   load-else = simp (stored32-else, stored64-else)
+
+-- ---- a thread's row becomes r in the lent tables
+unfoldable pub withRow : ℕ → Row → State → State
+withRow t r s = state (s .cells) (stored32 (s .rows32) t r) (stored64 (s .rows64) t r) (s .guards)
+
+pub seated : (i w i′ w′ : List ℕ) (t : ℕ) (r : Row) → i′ ≡ storedFrom i (fromRows + t * row32) (words32 r) → w′ ≡ storedFrom w (counterCells + t * row64) (words64 r) → (n m g : List ℕ) → lent i′ n m w′ g ≡ withRow t r (lent i n m w g)
+unfolding lent withRow
+seated i w i′ w′ t r p q n m g =
+    (λ j. lent (p j) n m (q j) g)
+    ∙ λ j. state (shared (stored-part x i 0 headCells a (omega arith) j) (stored-part y w 0 counterCells b (omega arith) j) (stored-part x i fromRecords (4 * records) a (omega arith) j) (stored-part x i fromSources sources a (omega arith) j) n m) (stored-drop x i fromRows (t * row32) j) (stored-drop y w counterCells (t * row64) j) g
+  where
+    x : List ℕ
+    x = words32 r
+
+    y : List ℕ
+    y = words64 r
+
+    a : ℕ
+    a = fromRows + t * row32
+
+    b : ℕ
+    b = counterCells + t * row64

@@ -1,19 +1,20 @@
 -- How a loop that goes up meets a definition that recurses on what is left: what is found where it stops, goes on, or ends.
-use Prim.Native.Nat.{ℕ, _+_, _*_, _≤_, _<_}
+use Prim.Native.Nat.{ℕ, zero, suc, _+_, _*_, _≤_, _<_}
 use mathlib.Core.Path.{_≡_, refl, sym, ap, _∙_}
 use mathlib.Core.Bool.{Bool, true, false}
-use mathlib.Core.List.{List, [], _∷_}
-use lib.ListN.{length, getD, drop, drop-of-length-le}
-use lib.Seq.{drop-cons}
-use lib.Dec.{eqb, ltb}
+use mathlib.Core.List.{List}
+use lib.ListN.{getD, take, drop}
+use lib.Seq.{getD-take}
+use lib.Dec.{ltb}
 use borrow.Author.Tests.{eq-eqb, ne-eqb, lt-ltb, le-ltb}
-use native.Mathlib.Numerals.{add-one}
+use native.Mathlib.Nat.{mul-le-mul-right, suc-mul, le-trans}
+use native.Mathlib.Omega.{arith}
 use Rattle.base.specs.Pick.{pick, pick-yes, pick-no}
 use Rattle.base.specs.Searches.{Going, here, ends}
 use Rattle.rules.specs.Sizes.{threads}
 use Rattle.rules.specs.Rows.{within}
-use Rattle.rules.specs.Step.{untakenFrom}
-use Rattle.rules.specs.Start.{isIn, isAbove, anyAbove}
+use Rattle.rules.specs.Step.{part, untakenFrom}
+use Rattle.rules.specs.Start.{anyIs, anyAbove}
 
 -- ---- a word x above its most
 module _ (most l : List ℕ) (b e i : ℕ) (r : Bool) (v : Going (within most l b) e i r) where
@@ -61,35 +62,29 @@ module _ (l : List ℕ) (m w k e i : ℕ) (r : Bool) (v : Going (anyAbove l m w 
   unfolding anyAbove
   above-out h = sym (ends (anyAbove l m w k) e i r v h)
 
--- ---- any test of a whole list, element by element
-module _ (f : List ℕ → Bool) (test : ℕ → Bool) (none : false ≡ f []) (one : (x : ℕ) (l : List ℕ) → f (x ∷ l) ≡ pick (test x) true (f l)) (l : List ℕ) (i : ℕ) (v : f l ≡ f (drop i l)) where
-  next : i < length l → f l ≡ pick (test (getD l i 0)) true (f (drop (i + 1) l))
-  next h = v ∙ ap f (drop-cons l i 0 h) ∙ one _ _ ∙ ap (λ (j : ℕ). pick (test (getD l i 0)) true (f (drop j l))) (sym (add-one i))
+-- a part of rows is searched as all that stands from its beginning on
+above-take : (l : List ℕ) (m w k i n len : ℕ) → k < w → (i + n) * w ≤ len → anyAbove l m w k i n ≡ anyAbove (take len l) m w k i n
+unfolding anyAbove
+above-take l m w k i zero len hk h = refl
+above-take l m w k i (suc n) len hk h =
+    let q : suc i * w ≤ len = le-trans (mul-le-mul-right w (let z : suc i ≤ i + suc n = omega arith in z)) h in
+    (λ j. pick (ltb m (sym (getD-take len l (i * w + k) 0 (omega (arith, suc-mul i w))) j)) true (anyAbove l m w k (i + 1) n))
+    ∙ ap (pick (ltb m (getD (take len l) (i * w + k) 0)) true) (above-take l m w k (i + 1) n len hk (let z : i + 1 + n ≡ i + suc n = omega arith in rw z h))
 
-  yes-found : i < length l → test (getD l i 0) ≡ true → true ≡ f l
-  yes-found h e = sym (next h ∙ pick-yes _ _ _ e)
+pub above-part : (from len : ℕ) (l : List ℕ) (m w k n : ℕ) (r : Bool) → r ≡ anyAbove (drop from l) m w k 0 n → k < w → n * w ≤ len → r ≡ anyAbove (part from len l) m w k 0 n
+unfolding part
+above-part from len l m w k n r e hk h = e ∙ above-take (drop from l) m w k 0 n len hk (let q : 0 + n ≡ n = omega arith in rw q h)
 
-  no-on : i < length l → test (getD l i 0) ≡ false → f l ≡ f (drop (i + 1) l)
-  no-on h e = next h ∙ pick-no _ _ _ e
+-- ---- a word x that is n
+module _ (l : List ℕ) (n e i : ℕ) (r : Bool) (v : Going (anyIs l n) e i r) where
+  pub is-found : (x : ℕ) → x ≡ getD l i 0 → i < e → x ≡ n → true ≡ r
+  unfolding anyIs
+  is-found x p h q = sym (here (anyIs l n) e i r v h ∙ pick-yes _ _ _ (eq-eqb _ _ (sym p ∙ q)))
 
-  none-out : length l ≤ i → false ≡ f l
-  none-out h = none ∙ sym (v ∙ ap f (drop-of-length-le l h))
+  pub is-on : (x : ℕ) → x ≡ getD l i 0 → i < e → (x ≡ n → ⊥) → Going (anyIs l n) e (i + 1) r
+  unfolding anyIs
+  is-on x p h q = here (anyIs l n) e i r v h ∙ pick-no _ _ _ (ne-eqb _ _ (rw p at q))
 
-module _ (l : List ℕ) (n i : ℕ) where
-  pub in-found : isIn n l ≡ isIn n (drop i l) → i < length l → getD l i 0 ≡ n → true ≡ isIn n l
-  in-found v h e = yes-found (isIn n) (λ x. eqb x n) refl (λ x l. refl) l i v h (eq-eqb _ _ e)
-
-  pub in-on : isIn n l ≡ isIn n (drop i l) → i < length l → (getD l i 0 ≡ n → ⊥) → isIn n l ≡ isIn n (drop (i + 1) l)
-  in-on v h e = no-on (isIn n) (λ x. eqb x n) refl (λ x l. refl) l i v h (ne-eqb _ _ e)
-
-  pub in-out : isIn n l ≡ isIn n (drop i l) → length l ≤ i → false ≡ isIn n l
-  in-out v h = none-out (isIn n) (λ x. eqb x n) refl (λ x l. refl) l i v h
-
-  pub over-found : isAbove n l ≡ isAbove n (drop i l) → i < length l → n < getD l i 0 → true ≡ isAbove n l
-  over-found v h e = yes-found (isAbove n) (ltb n) refl (λ x l. refl) l i v h (lt-ltb _ _ e)
-
-  pub over-on : isAbove n l ≡ isAbove n (drop i l) → i < length l → getD l i 0 ≤ n → isAbove n l ≡ isAbove n (drop (i + 1) l)
-  over-on v h e = no-on (isAbove n) (ltb n) refl (λ x l. refl) l i v h (le-ltb _ _ e)
-
-  pub over-out : isAbove n l ≡ isAbove n (drop i l) → length l ≤ i → false ≡ isAbove n l
-  over-out v h = none-out (isAbove n) (ltb n) refl (λ x l. refl) l i v h
+  pub is-out : e ≤ i → false ≡ r
+  unfolding anyIs
+  is-out h = sym (ends (anyIs l n) e i r v h)

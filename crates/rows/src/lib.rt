@@ -1,57 +1,67 @@
-// A thread's row in its two tables, and the searches of the lent tables.
+// A thread's row in the tables of ids and words, and the searches of the lent tables.
 ghost use mathlib.Core.Path.{_≡_};
-ghost use Prim.Native.Nat.{_+_, _*_, _<_};
-ghost use lib.ListN.{length};
-ghost use Rattle.rules.specs.Sizes.{base, row32, row64, threads};
-ghost use Rattle.rules.specs.Rows.{rowAt, storedFrom, stored32, stored64, rowFits};
-ghost use Rattle.rules.specs.Step.{untakenFrom, untakenFor};
-ghost use Rattle.rules.specs.Start.{isIn, isAbove, anyAbove};
+ghost use mathlib.Core.List.{List};
+ghost use Prim.Native.Nat.{ℕ, _+_, _*_, _<_};
+ghost use lib.ListN.{length, drop};
+ghost use Rattle.rules.specs.Sizes.{base, records, sources, nodes, row32, row64, threads, counterCells, fromSources, fromRecords, fromRows};
+ghost use Rattle.rules.specs.Rows.{rowAt, storedFrom, rowFits};
+ghost use Rattle.rules.specs.Step.{part, lent, untakenFrom, untakenFor};
+ghost use Rattle.rules.specs.Start.{anyIs, anyAbove};
 ghost use Rattle.rows.specs.CopyLaws.{Copied};
+ghost use Rattle.rows.specs.RowLaws.{withRow};
+use rules::COUNTER_CELLS;
+use rules::FROM_RECORDS;
+use rules::FROM_ROWS;
+use rules::FROM_SOURCES;
 use rules::NODES;
+use rules::RECORD_CELLS;
 use rules::RECORDS;
 use rules::Row;
 use rules::SHARDS;
+use rules::SOURCE_CELLS;
 use rules::SOURCES;
 use rules::THREADS;
+use rules::kind;
+use rules::place;
 
 // The words of a row in each of its tables.
 pub const ROW32: usize = 21;
 
 pub const ROW64: usize = 5;
 
-// The words of a table from b on, as many as a row has.
-fn part32(t: &[u32], b: usize) -> [u32; ROW32]
+// The words of the rows from b on, as many as a row has.
+fn part32(ids: &[u32], b: usize) -> [u32; ROW32]
     requires { ⌜ b < 4294967296 * row32 ⌝ }
-    ensures { λ r. ⌜ Copied r (now (t .entry)) b row32 ⌝ }
+    ensures { λ r. ⌜ Copied r (drop fromRows (now (ids .entry))) b row32 ⌝ }
 {
     let mut w = [0u32; ROW32];
     let mut i = 0usize;
     while i < ROW32 {
-        w[i] = tables::id(t, b + i);
+        w[i] = tables::id_from(ids, FROM_ROWS, b + i);
         i += 1;
     }
     w
 }
 
-fn part64(t: &[u64], b: usize) -> [u64; ROW64]
+fn part64(words: &[u64], b: usize) -> [u64; ROW64]
     requires { ⌜ b < 4294967296 * row64 ⌝ }
-    ensures { λ r. ⌜ Copied r (now (t .entry)) b row64 ⌝ }
+    ensures { λ r. ⌜ Copied r (drop counterCells (now (words .entry))) b row64 ⌝ }
 {
     let mut w = [0u64; ROW64];
     let mut i = 0usize;
     while i < ROW64 {
-        w[i] = tables::word(t, b + i);
+        w[i] = tables::word_from(words, COUNTER_CELLS, b + i);
         i += 1;
     }
     w
 }
 
 // A thread's row; the words past a table's end are 0.
-pub fn load_row(rows32: &[u32], rows64: &[u64], t: u32) -> Row
-    ensures { λ r. ⌜ r ≡ rowAt (now (rows32 .entry)) (now (rows64 .entry)) t ⌝ }
+pub fn load_row(ids: &[u32], words: &[u64], t: u32) -> Row
+    ensures { λ r. ⌜ r ≡ rowAt (drop fromRows (now (ids .entry))) (drop counterCells (now (words .entry))) t ⌝ }
 {
-    let a = part32(rows32, t as usize * ROW32);
-    let d = part64(rows64, t as usize * ROW64);
+    let a = part32(ids, t as usize * ROW32);
+    let d = part64(words, t as usize * ROW64);
     Row {
         place: a[0],
         operation: a[1],
@@ -99,8 +109,8 @@ fn copy64(t: &mut [u64], b: usize, ws: &[u64])
 }
 
 // A thread's row becomes r.
-pub fn store_row(rows32: &mut [u32], rows64: &mut [u64], t: u32, r: Row)
-    ensures { λ _. ⌜ (now (rows32 .exit) ≡ stored32 (now (rows32 .entry)) t r) × (now (rows64 .exit) ≡ stored64 (now (rows64 .entry)) t r) ⌝ }
+pub fn store_row(ids: &mut [u32], words: &mut [u64], t: u32, r: Row)
+    ensures { λ _. ⌜ ((next state guards : List ℕ) → lent (now (ids .exit)) next state (now (words .exit)) guards ≡ withRow t r (lent (now (ids .entry)) next state (now (words .entry)) guards)) ⌝ }
 {
     let s = r.stolen;
     let a = [
@@ -127,14 +137,14 @@ pub fn store_row(rows32: &mut [u32], rows64: &mut [u64], t: u32, r: Row)
         s[7],
     ];
     let d = [r.count, r.rcount, r.total, r.due, r.clock];
-    copy32(rows32, t as usize * ROW32, &a);
-    copy64(rows64, t as usize * ROW64, &d);
+    copy32(ids, FROM_ROWS + t as usize * ROW32, &a);
+    copy64(words, COUNTER_CELLS + t as usize * ROW64, &d);
 }
 
 // The largest content of each of the 21 words.
 const MOST: [u32; ROW32] = [
-    46,
-    12,
+    place::S3,
+    kind::SHUTDOWN,
     RECORDS,
     RECORDS,
     SOURCES,
@@ -157,13 +167,13 @@ const MOST: [u32; ROW32] = [
 ];
 
 // Whether each word of a thread's row is in its range.
-pub fn row_fits(rows32: &[u32], t: u32) -> bool
-    ensures { λ r. ⌜ r ≡ rowFits base (now (rows32 .entry)) t ⌝ }
+pub fn row_fits(ids: &[u32], t: u32) -> bool
+    ensures { λ r. ⌜ r ≡ rowFits base (drop fromRows (now (ids .entry))) t ⌝ }
 {
     let b = t as usize * ROW32;
     let mut i = 0usize;
     while i < ROW32 {
-        let x = tables::id(rows32, b + i);
+        let x = tables::id_from(ids, FROM_ROWS, b + i);
         if MOST[i] < x {
             return false;
         }
@@ -176,12 +186,12 @@ pub fn row_fits(rows32: &[u32], t: u32) -> bool
 const HOLDER: u32 = THREADS + 1;
 
 // The first record row that is not taken, from 1; 0 if all are.
-fn lowest(records: &[u32]) -> u32
-    ensures { λ r. ⌜ r ≡ untakenFrom (now (records .entry)) 0 1024 ⌝ }
+fn lowest(ids: &[u32]) -> u32
+    ensures { λ r. ⌜ r ≡ untakenFrom (part fromRecords (4 * records) (now (ids .entry))) 0 records ⌝ }
 {
     let mut i = 0u32;
     while i < RECORDS {
-        let x = tables::id(records, i as usize * 4 + 3);
+        let x = tables::id_in(ids, FROM_RECORDS, RECORD_CELLS, i as usize * 4 + 3);
         if x == 0 {
             return i + 1;
         }
@@ -194,22 +204,23 @@ fn lowest(records: &[u32]) -> u32
 }
 
 // The row that N1 would take; no other place looks for one.
-pub fn untaken(records: &[u32], place: u32) -> u32
-    ensures { λ r. ⌜ r ≡ untakenFor (now (records .entry)) place ⌝ }
+pub fn untaken(ids: &[u32], place: u32) -> u32
+    ensures { λ r. ⌜ r ≡ untakenFor (part fromRecords (4 * records) (now (ids .entry))) place ⌝ }
 {
-    if place == 7 {
-        return lowest(records);
+    if place == place::N1 {
+        return lowest(ids);
     }
     0
 }
 
-// Whether n stands in a table.
-pub fn is_in(table: &[u32], n: u32) -> bool
-    ensures { λ r. ⌜ r ≡ isIn n (now (table .entry)) ⌝ }
+// Whether a source holds n.
+pub fn linked(ids: &[u32], n: u32) -> bool
+    ensures { λ r. ⌜ r ≡ anyIs (part fromSources sources (now (ids .entry))) n 0 sources ⌝ }
 {
     let mut i = 0usize;
-    while i < table.len() {
-        if table[i] == n {
+    while i < SOURCE_CELLS {
+        let x = tables::id_in(ids, FROM_SOURCES, SOURCE_CELLS, i);
+        if x == n {
             return true;
         }
         i += 1;
@@ -217,28 +228,14 @@ pub fn is_in(table: &[u32], n: u32) -> bool
     false
 }
 
-// Whether a table has a number above n.
-pub fn is_above(table: &[u32], n: u32) -> bool
-    ensures { λ r. ⌜ r ≡ isAbove n (now (table .entry)) ⌝ }
-{
-    let mut i = 0usize;
-    while i < table.len() {
-        if n < table[i] {
-            return true;
-        }
-        i += 1;
-    }
-    false
-}
-
-// Whether word k of one of n rows of w words is above m.
-fn any_above(t: &[u32], m: u32, w: usize, k: usize, n: u32) -> bool
+// Whether word k of one of n rows of w words is above m, the rows being those from `from` on.
+fn any_above(ids: &[u32], from: usize, m: u32, w: usize, k: usize, n: u32) -> bool
     requires { ⌜ n * w + k < 18446744073709551616 ⌝ }
-    ensures { λ r. ⌜ r ≡ anyAbove (now (t .entry)) m w k 0 n ⌝ }
+    ensures { λ r. ⌜ r ≡ anyAbove (drop from (now (ids .entry))) m w k 0 n ⌝ }
 {
     let mut i = 0u32;
     while i < n {
-        let x = tables::id(t, i as usize * w + k);
+        let x = tables::id_from(ids, from, i as usize * w + k);
         if m < x {
             return true;
         }
@@ -247,16 +244,23 @@ fn any_above(t: &[u32], m: u32, w: usize, k: usize, n: u32) -> bool
     false
 }
 
-// Whether a thread is inside an operation.
-pub fn inside(rows32: &[u32]) -> bool
-    ensures { λ r. ⌜ r ≡ anyAbove (now (rows32 .entry)) 0 row32 0 0 threads ⌝ }
+// Whether a source is damaged.
+pub fn unsound(ids: &[u32]) -> bool
+    ensures { λ r. ⌜ r ≡ anyAbove (part fromSources sources (now (ids .entry))) nodes 1 0 0 sources ⌝ }
 {
-    any_above(rows32, 0, ROW32, 0, THREADS)
+    any_above(ids, FROM_SOURCES, NODES, 1, 0, SOURCES)
+}
+
+// Whether a thread is inside an operation.
+pub fn inside(ids: &[u32]) -> bool
+    ensures { λ r. ⌜ r ≡ anyAbove (drop fromRows (now (ids .entry))) 0 row32 0 0 threads ⌝ }
+{
+    any_above(ids, FROM_ROWS, 0, ROW32, 0, THREADS)
 }
 
 // Whether a record is owned.
-pub fn owned(records: &[u32]) -> bool
-    ensures { λ r. ⌜ r ≡ anyAbove (now (records .entry)) 1 4 3 0 1024 ⌝ }
+pub fn owned(ids: &[u32]) -> bool
+    ensures { λ r. ⌜ r ≡ anyAbove (part fromRecords (4 * records) (now (ids .entry))) 1 4 3 0 records ⌝ }
 {
-    any_above(records, 1, 4, 3, RECORDS)
+    any_above(ids, FROM_RECORDS, 1, 4, 3, RECORDS)
 }

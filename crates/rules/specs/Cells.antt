@@ -53,8 +53,11 @@ inRecords = 3
 abbrev pub inSources : ℕ
 inSources = 4
 
-abbrev pub inNodes : ℕ
-inNodes = 5
+abbrev pub inNext : ℕ
+inNext = 5
+
+abbrev pub inState : ℕ
+inState = 6
 
 unfoldable pub address : Named → Cell
 address cell.Nothing = nothing
@@ -71,8 +74,8 @@ address (cell.AvailableNext r) = wordOf inRecords records 4 r 1 ARecord
 address (cell.RecordNext r) = wordOf inRecords records 4 r 2 ARecord
 address (cell.Holder r) = wordOf inRecords records 4 r 3 AHolder
 address (cell.Source b) = wordOf inSources sources 1 b 0 ANode
-address (cell.NodeNext n) = wordOf inNodes nodes 2 n 0 ANode
-address (cell.NodeState n) = wordOf inNodes nodes 2 n 1 AState
+address (cell.NodeNext n) = wordOf inNext nodes 1 n 0 ANode
+address (cell.NodeState n) = wordOf inState nodes 1 n 0 AState
 
 -- a store does not read its cell, so that any content will do; 0 is in the range of every cell but of none
 abbrev pub unread : Cell → Cell

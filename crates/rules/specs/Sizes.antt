@@ -1,5 +1,5 @@
 -- The sizes and settings, each named once.
-use Prim.Native.Nat.{ℕ}
+use Prim.Native.Nat.{ℕ, _+_, _*_}
 use mathlib.Core.Bool.{Bool}
 use lib.Dec.{leb}
 
@@ -20,12 +20,29 @@ threads = 16
 abbrev pub words : ℕ
 words = 64
 
--- the words of a row in the table of 32-bit and in that of 64-bit numbers
+-- the words of a thread's row among the 32-bit and among the 64-bit numbers
 abbrev pub row32 : ℕ
 row32 = 21
 
 abbrev pub row64 : ℕ
 row64 = 5
+
+-- the heads and the mark, and the counters
+abbrev pub headCells : ℕ
+headCells = 11
+
+abbrev pub counterCells : ℕ
+counterCells = 5
+
+-- where the parts of the table of ids begin: the heads, the sources, the record rows, the threads' rows
+abbrev pub fromSources : ℕ
+fromSources = headCells
+
+abbrev pub fromRecords : ℕ
+fromRecords = fromSources + sources
+
+abbrev pub fromRows : ℕ
+fromRows = fromRecords + 4 * records
 
 -- the steps after which every step is refused: 2^40
 abbrev pub steps : ℕ

@@ -12,7 +12,7 @@ use Rattle.rules.specs.Pc.{Pc, code}
 use Rattle.rules.specs.Cells
 use Rattle.rules.specs.Cells.{address}
 use Rattle.rules.specs.Rows.{stored32, stored64}
-use Rattle.rules.specs.Step.{Shared, State, state, Out, out, answer, refused, sizes, atIn, written}
+use Rattle.rules.specs.Step.{State, state, Out, out, answer, refused, sizes, atIn, written}
 use Rattle.rules.specs.declared.Operation.{Operation}
 use Rattle.rules.specs.declared.Operation.the-variants.{Acquire, Release, Protect, Try, TryProtect, Reset, Raw, Swap, Retire, Eager, Cleanup, Shutdown}
 use Rattle.rules.specs.declared.Named.{Named}
@@ -21,14 +21,10 @@ use Rattle.rules.specs.declared.Row.{Row}
 use Rattle.rules.specs.declared.Entry.{Entry}
 
 -- ---- searches
-abbrev pub isIn : ℕ → List ℕ → Bool
-isIn n [] = false
-isIn n (x ∷ l) = pick (eqb x n) true (isIn n l)
-
--- whether one of the list is above n
-abbrev pub isAbove : ℕ → List ℕ → Bool
-isAbove n [] = false
-isAbove n (x ∷ l) = pick (ltb n x) true (isAbove n l)
+-- whether one of n words, from l's i on, is x
+unfoldable pub anyIs : List ℕ → ℕ → ℕ → ℕ → Bool
+anyIs l x i zero = false
+anyIs l x i (suc n) = pick (eqb (getD l i 0) x) true (anyIs l x (i + 1) n)
 
 -- whether word k of one of n rows of w words, from row i on, is above m
 unfoldable pub anyAbove : List ℕ → ℕ → ℕ → ℕ → ℕ → ℕ → Bool
@@ -60,7 +56,9 @@ abbrev pub retireBy : ℕ → ℕ → Bool → Bool → ℕ
 retireBy n state linked damaged = pick (eqb n 0) 24 (pick (ltb nodes n) 24 (pick (eqb state 1) (pick linked 25 (pick damaged 29 0)) 25))
 
 unfoldable pub notRetirable : List ℕ → List ℕ → ℕ → ℕ
-notRetirable sources nodes′ n = retireBy n (getD nodes′ (atIn (address (cell.NodeState (narrow n))) Cells.inNodes) 0) (isIn (narrow n) sources) (isAbove nodes sources)
+notRetirable sources′ state n =
+    retireBy n (getD state (atIn (address (cell.NodeState (narrow n))) Cells.inState) 0)
+    (anyIs sources′ (narrow n) 0 sources) (anyAbove sources′ nodes 1 0 0 sources)
 
 -- 27: a thread is inside an operation, or a record is owned
 abbrev pub busyBy : Bool → Bool → ℕ
@@ -71,18 +69,18 @@ busy rows32 records′ = busyBy (anyAbove rows32 0 row32 0 0 threads) (anyAbove 
 
 -- the first of the operation's own, in the table's order
 unfoldable pub refusal : List ℕ → List ℕ → List ℕ → List ℕ → ℕ → Operation → ℕ
-refusal records sources nodes rows32 t Acquire = 0
-refusal records sources nodes rows32 t (Release a) = notOwned records t a
-refusal records sources nodes rows32 t (Protect a b) = orElse (notOwned records t a) (notSource b)
-refusal records sources nodes rows32 t (Try a b n) = orElse (notOwned records t a) (orElse (notSource b) (notNode n))
-refusal records sources nodes rows32 t (TryProtect a b n) = orElse (notOwned records t a) (orElse (notSource b) (notNode n))
-refusal records sources nodes rows32 t (Reset a) = notOwned records t a
-refusal records sources nodes rows32 t (Raw a n) = orElse (notOwned records t a) (notNode n)
-refusal records sources nodes rows32 t (Swap b n) = orElse (notSource b) (notNode n)
-refusal records sources nodes rows32 t (Retire n x) = notRetirable sources nodes n
-refusal records sources nodes rows32 t Eager = 0
-refusal records sources nodes rows32 t Cleanup = 0
-refusal records sources nodes rows32 t Shutdown = busy rows32 records
+refusal records sources state rows32 t Acquire = 0
+refusal records sources state rows32 t (Release a) = notOwned records t a
+refusal records sources state rows32 t (Protect a b) = orElse (notOwned records t a) (notSource b)
+refusal records sources state rows32 t (Try a b n) = orElse (notOwned records t a) (orElse (notSource b) (notNode n))
+refusal records sources state rows32 t (TryProtect a b n) = orElse (notOwned records t a) (orElse (notSource b) (notNode n))
+refusal records sources state rows32 t (Reset a) = notOwned records t a
+refusal records sources state rows32 t (Raw a n) = orElse (notOwned records t a) (notNode n)
+refusal records sources state rows32 t (Swap b n) = orElse (notSource b) (notNode n)
+refusal records sources state rows32 t (Retire n x) = notRetirable sources state n
+refusal records sources state rows32 t Eager = 0
+refusal records sources state rows32 t Cleanup = 0
+refusal records sources state rows32 t Shutdown = busy rows32 records
 
 -- 18, 20, the operation's own n, and 29 for a damaged shutdown mark
 abbrev pub refuseBy : ℕ → ℕ → ℕ → ℕ
@@ -90,8 +88,10 @@ refuseBy mark place n =
     pick (eqb mark 1) 18 (pick (eqb mark 2) 18
     (pick (eqb place (code Pc.Idle)) (pick (eqb n 0) (pick (ltb 2 mark) 29 0) n) 20))
 
-unfoldable pub refuseOf : Shared → List ℕ → ℕ → Operation → ℕ
-refuseOf s rows32 t o = refuseBy (getD (s .heads) 2 0) (getD rows32 (t * row32) 0) (refusal (s .records) (s .sources) (s .nodes) rows32 t o)
+unfoldable pub refuseOf : State → ℕ → Operation → ℕ
+refuseOf s t o =
+    refuseBy (getD (s .cells .heads) 2 0) (getD (s .rows32) (t * row32) 0)
+    (refusal (s .cells .records) (s .cells .sources) (s .cells .state) (s .rows32) t o)
 
 -- ---- what a start writes
 abbrev pub freshAt : ℕ → ℕ → ℕ → ℕ → ℕ → ℕ → ℕ → Row
@@ -130,7 +130,7 @@ abbrev pub startBy : State → ℕ → ℕ → Entry → Out
 startBy s t n e = pick (eqb n 0) (pick (ofNull e) (out (answer 2 0) s) (out (answer 1 0) (entered s t e))) (refused n s)
 
 unfoldable pub startIn : Settings → State → ℕ → Operation → Out
-startIn g s t o = startBy s t (refuseOf (s .cells) (s .rows32) t o) (begins g o)
+startIn g s t o = startBy s t (refuseOf s t o) (begins g o)
 
 unfoldable pub startOf : Settings → State → ℕ → Operation → Out
 startOf g s t o = pick (sizes s) (pick (ltb t threads) (startIn g s t o) (refused 17 s)) (refused 16 s)

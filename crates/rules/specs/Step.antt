@@ -5,7 +5,7 @@ use mathlib.Core.List.{List, [], _∷_, _++_}
 use lib.ListN.{length, getD, set, take, drop, replicate}
 use lib.Dec.{eqb, ltb, leb}
 use Rattle.base.specs.Pick.{pick, both}
-use Rattle.rules.specs.Sizes.{records, sources, nodes, threads, words, row32, row64, steps, Settings}
+use Rattle.rules.specs.Sizes.{records, sources, nodes, threads, words, row32, row64, headCells, counterCells, fromSources, fromRecords, fromRows, steps, Settings}
 use Rattle.rules.specs.Words.{isGuarded, guardedAlso, noneGuarded, plus}
 use Rattle.rules.specs.Pc
 use Rattle.rules.specs.Pc.{code}
@@ -21,16 +21,17 @@ use Rattle.rules.specs.declared.Effect.{Effect}
 use Rattle.rules.specs.declared.Guards.{Guards}
 use Rattle.rules.specs.declared.Guards.the-variants as guards
 
--- ---- the lent tables: the shared cells, the threads' rows and their guarded sets
+-- ---- what the tables hold: the shared cells, the threads' rows and their guarded sets
 pub record Shared : Type 0 where
   pub heads : List ℕ
   pub counters : List ℕ
   pub records : List ℕ
   pub sources : List ℕ
-  pub nodes : List ℕ
+  pub next : List ℕ
+  pub state : List ℕ
 
-abbrev pub shared : List ℕ → List ℕ → List ℕ → List ℕ → List ℕ → Shared
-shared h c r s n = record { heads = h; counters = c; records = r; sources = s; nodes = n }
+abbrev pub shared : List ℕ → List ℕ → List ℕ → List ℕ → List ℕ → List ℕ → Shared
+shared h c r s n m = record { heads = h; counters = c; records = r; sources = s; next = n; state = m }
 
 pub record State : Type 0 where
   pub cells : Shared
@@ -40,6 +41,18 @@ pub record State : Type 0 where
 
 abbrev pub state : Shared → List ℕ → List ℕ → List ℕ → State
 state s a b g = record { cells = s; rows32 = a; rows64 = b; guards = g }
+
+-- ---- the five lent tables: ids and words hold their parts one behind the other
+unfoldable pub part : ℕ → ℕ → List ℕ → List ℕ
+part from n l = take n (drop from l)
+
+abbrev pub sharedIn : List ℕ → List ℕ → List ℕ → List ℕ → Shared
+sharedIn ids next state words =
+    shared (part 0 headCells ids) (part 0 counterCells words) (part fromRecords (4 * records) ids)
+    (part fromSources sources ids) next state
+
+unfoldable pub lent : List ℕ → List ℕ → List ℕ → List ℕ → List ℕ → State
+lent ids next state′ words guards = state (sharedIn ids next state′ words) (drop fromRows ids) (drop counterCells words) guards
 
 pub record Out : Type 0 where
   pub answer : Answer
@@ -57,13 +70,16 @@ refused n s = out (answer n 0) s
 
 abbrev pub sizes : State → Bool
 sizes s =
-    both (eqb (length (s .cells .heads)) 11) (both (eqb (length (s .cells .counters)) 5) (both (eqb (length (s .cells .records)) (4 * records))
-    (both (eqb (length (s .cells .sources)) sources) (both (eqb (length (s .cells .nodes)) (2 * nodes)) (both (eqb (length (s .rows32)) (row32 * threads))
-    (both (eqb (length (s .rows64)) (row64 * threads)) (eqb (length (s .guards)) (words * threads))))))))
+    both (eqb (length (s .cells .heads)) headCells) (both (eqb (length (s .cells .counters)) counterCells)
+    (both (eqb (length (s .cells .records)) (4 * records)) (both (eqb (length (s .cells .sources)) sources)
+    (both (eqb (length (s .cells .next)) nodes) (both (eqb (length (s .cells .state)) nodes)
+    (both (eqb (length (s .rows32)) (row32 * threads)) (both (eqb (length (s .rows64)) (row64 * threads))
+    (eqb (length (s .guards)) (words * threads)))))))))
 
 -- ---- one cell
 unfoldable pub fetched : Shared → Cell → ℕ
-fetched s c = getD (getD ([] ∷ s .heads ∷ s .counters ∷ s .records ∷ s .sources ∷ s .nodes ∷ []) (c .table) []) (c .at) 0
+fetched s c =
+    getD (getD ([] ∷ s .heads ∷ s .counters ∷ s .records ∷ s .sources ∷ s .next ∷ s .state ∷ []) (c .table) []) (c .at) 0
 
 -- where the cell stands in table k; past every table's end if it is of another
 abbrev pub atIn : Cell → ℕ → ℕ
@@ -73,7 +89,7 @@ unfoldable pub written : Shared → Cell → ℕ → Shared
 written s c v =
     shared (set (s .heads) (atIn c Cells.heads) (v % 2 ^ 32)) (set (s .counters) (atIn c Cells.counters) v)
     (set (s .records) (atIn c Cells.inRecords) (v % 2 ^ 32)) (set (s .sources) (atIn c Cells.inSources) (v % 2 ^ 32))
-    (set (s .nodes) (atIn c Cells.inNodes) (v % 2 ^ 32))
+    (set (s .next) (atIn c Cells.inNext) (v % 2 ^ 32)) (set (s .state) (atIn c Cells.inState) (v % 2 ^ 32))
 
 -- ---- what a step reads
 -- the first of n record rows after row i that is not taken: unused, or damaged; 0 if there is none
@@ -98,8 +114,9 @@ abbrev pub seen : ℕ → ℕ → ℕ → Bool → ℕ → Bool → ℕ → Seen
 seen x y untaken guarded t flag clock = record { x = x; v = x % 2 ^ 32; y = y; w = y % 2 ^ 32; untaken = untaken; guarded = guarded; thread = t; flag = flag; clock = clock }
 
 -- the row's step reads its cell c, and l beside it
-unfoldable pub readBy : Shared → List ℕ → ℕ → Bool → ℕ → Row → Cell → Cell → ℕ → Seen
-readBy s g t flag clock r c l untaken = seen (fetched s c) (fetched s l) untaken (isGuarded (guardsOf g t) (first r)) t flag clock
+unfoldable pub readBy : State → ℕ → Bool → ℕ → Row → Cell → Cell → ℕ → Seen
+readBy s t flag clock r c l untaken =
+    seen (fetched (s .cells) c) (fetched (s .cells) l) untaken (isGuarded (guardsOf (s .guards) t) (first r)) t flag clock
 
 -- 25 and 26 come before 29
 abbrev pub judge : Row → Bool → Effect → Effect
@@ -109,20 +126,24 @@ judge r fits e = pick (eqb (e .number) 25) e (pick (eqb (e .number) 26) e (pick 
 unfoldable pub judged : Row → Bool → Cell → Cell → Seen → Effect → Effect
 judged r fits c l i e = judge r (both fits (both (inRange (c .class) (i .x)) (both (inRange (l .class) (i .y)) (inRange (address (e .also) .class) 0)))) e
 
-unfoldable pub lookBy : Settings → Shared → List ℕ → List ℕ → ℕ → Bool → ℕ → Row → Cell → Cell → ℕ → Effect
-lookBy g s rows32 guards t flag clock r c l untaken =
-    judged r (rowFits g rows32 t) c l (readBy s guards t flag clock r c l untaken) (effectOf g r (readBy s guards t flag clock r c l untaken))
+unfoldable pub lookBy : Settings → State → ℕ → Bool → ℕ → Row → Cell → Cell → ℕ → Effect
+lookBy g s t flag clock r c l untaken =
+    let i = readBy s t flag clock r c l untaken in judged r (rowFits g (s .rows32) t) c l i (effectOf g r i)
 
-unfoldable pub lookOf : Settings → Shared → List ℕ → List ℕ → ℕ → Bool → ℕ → Row → Effect
-lookOf g s rows32 guards t flag clock r =
-    lookBy g s rows32 guards t flag clock r (accessed (accessOf r)) (address (followOf r (untakenFor (s .records) (r .place)))) (untakenFor (s .records) (r .place))
+unfoldable pub lookOf : Settings → State → ℕ → Bool → ℕ → Row → Effect
+lookOf g s t flag clock r =
+    let untaken = untakenFor (s .cells .records) (r .place) in
+    lookBy g s t flag clock r (accessed (accessOf r)) (address (followOf r untaken)) untaken
 
 -- ---- how its effect is applied
 abbrev pub closed : Shared → Bool → Shared
-closed s b = pick b (shared (set (set (s .heads) 0 0) 1 0) (s .counters) (replicate (length (s .records)) 0) (s .sources) (s .nodes)) s
+closed s b =
+    pick b
+    (shared (set (set (s .heads) 0 0) 1 0) (s .counters) (replicate (length (s .records)) 0) (s .sources) (s .next) (s .state)) s
 
 abbrev pub ticked : Shared → Shared
-ticked s = shared (s .heads) (set (s .counters) 4 (plus (getD (s .counters) 4 0) 1)) (s .records) (s .sources) (s .nodes)
+ticked s =
+    shared (s .heads) (set (s .counters) 4 (plus (getD (s .counters) 4 0) 1)) (s .records) (s .sources) (s .next) (s .state)
 
 unfoldable pub cellsGiven : Shared → Cell → Effect → Shared
 cellsGiven s c e = ticked (closed (written (written s (pick (e .writes) c nothing) (e .put)) (address (e .also)) (e .to)) (e .closes))
@@ -145,7 +166,7 @@ takeBy s t c e = pick (eqb (e .number) 29) (refused 29 s) (out (answer (e .numbe
 unfoldable pub takeOf : Settings → State → ℕ → Bool → ℕ → Out
 takeOf g s t flag clock =
     let r = rowAt (s .rows32) (s .rows64) t in
-    takeBy s t (accessed (accessOf r)) (lookOf g (s .cells) (s .rows32) (s .guards) t flag clock r)
+    takeBy s t (accessed (accessOf r)) (lookOf g s t flag clock r)
 
 -- 19 and 21
 unfoldable pub stepIn : Settings → State → ℕ → Bool → ℕ → Out

@@ -12,6 +12,23 @@ pub const NODES: u32 = 4096;
 pub const THREADS: u32 = 16;
 
 pub const SHARDS: u32 = 8;
+
+// The heads with the mark, the counters, the sources, and the record rows of four words.
+pub const HEAD_CELLS: usize = 11;
+
+pub const COUNTER_CELLS: usize = 5;
+
+pub const SOURCE_CELLS: usize = SOURCES as usize;
+
+pub const RECORD_CELLS: usize = RECORDS as usize * 4;
+
+// Where the parts of the table of ids begin behind its heads.
+pub const FROM_SOURCES: usize = HEAD_CELLS;
+
+pub const FROM_RECORDS: usize = FROM_SOURCES + SOURCE_CELLS;
+
+pub const FROM_ROWS: usize = FROM_RECORDS + RECORD_CELLS;
+
 // Steps after which every step is refused: 2^40.
 pub const STEPS: u64 = 1099511627776;
 

@@ -1,13 +1,20 @@
 // What a start refuses, by document 01's numbers; 0 for none.
 ghost use mathlib.Core.Path.{_≡_};
 ghost use Rattle.rules.specs.Start.{orElse, notOwned, notSource, notNode, retireBy, notRetirable, busyBy, busy, refusal, refuseBy, refuseOf, narrow};
-ghost use Rattle.rules.specs.Step.{shared};
+ghost use Rattle.rules.specs.Step.{part, lent};
+ghost use Rattle.rules.specs.Sizes.{records, sources, fromSources, fromRecords, fromRows};
 ghost use Rattle.base.specs.Pick.{pick};
 ghost use lib.Dec.{eqb};
-ghost use Prim.Native.Nat.{_+_};
+ghost use Prim.Native.Nat.{ℕ, _+_, _*_};
+ghost use mathlib.Core.List.{List};
+ghost use lib.ListN.{drop};
+use rules::FROM_RECORDS;
+use rules::FROM_ROWS;
+use rules::HEAD_CELLS;
 use rules::NODES;
 use rules::Named;
 use rules::Operation;
+use rules::RECORD_CELLS;
 use rules::SOURCES;
 
 // A node is narrowed after it was compared.
@@ -36,11 +43,14 @@ fn own(holder: u32, t: u32) -> u32
     22
 }
 
-fn not_owned(records: &[u32], t: u32, rec: u32) -> u32
-    ensures { λ n. ⌜ n ≡ notOwned (now (records .entry)) t rec ⌝ }
+fn not_owned(ids: &[u32], t: u32, rec: u32) -> u32
+    ensures { λ n. ⌜ n ≡ notOwned (part fromRecords (4 * records) (now (ids .entry))) t rec ⌝ }
 {
     let at = tables::at_in(tables::address(Named::Holder(rec)), tables::IN_RECORDS);
-    own(tables::id(records, at as usize), t)
+    own(
+        tables::id_in(ids, FROM_RECORDS, RECORD_CELLS, at as usize),
+        t,
+    )
 }
 
 // 23: no such source.
@@ -66,22 +76,22 @@ fn not_node(node: u64) -> u32
     0
 }
 
-fn not_protectable(records: &[u32], t: u32, rec: u32, source: u32) -> u32
-    ensures { λ n. ⌜ n ≡ orElse (notOwned (now (records .entry)) t rec) (notSource source) ⌝ }
+fn not_protectable(ids: &[u32], t: u32, rec: u32, source: u32) -> u32
+    ensures { λ n. ⌜ n ≡ orElse (notOwned (part fromRecords (4 * records) (now (ids .entry))) t rec) (notSource source) ⌝ }
 {
-    or_else(not_owned(records, t, rec), not_source(source))
+    or_else(not_owned(ids, t, rec), not_source(source))
 }
 
-fn not_tryable(records: &[u32], t: u32, rec: u32, source: u32, node: u64) -> u32
-    ensures { λ n. ⌜ n ≡ orElse (notOwned (now (records .entry)) t rec) (orElse (notSource source) (notNode node)) ⌝ }
+fn not_tryable(ids: &[u32], t: u32, rec: u32, source: u32, node: u64) -> u32
+    ensures { λ n. ⌜ n ≡ orElse (notOwned (part fromRecords (4 * records) (now (ids .entry))) t rec) (orElse (notSource source) (notNode node)) ⌝ }
 {
-    or_else(not_owned(records, t, rec), not_swappable(source, node))
+    or_else(not_owned(ids, t, rec), not_swappable(source, node))
 }
 
-fn not_raw(records: &[u32], t: u32, rec: u32, node: u64) -> u32
-    ensures { λ n. ⌜ n ≡ orElse (notOwned (now (records .entry)) t rec) (notNode node) ⌝ }
+fn not_raw(ids: &[u32], t: u32, rec: u32, node: u64) -> u32
+    ensures { λ n. ⌜ n ≡ orElse (notOwned (part fromRecords (4 * records) (now (ids .entry))) t rec) (notNode node) ⌝ }
 {
-    or_else(not_owned(records, t, rec), not_node(node))
+    or_else(not_owned(ids, t, rec), not_node(node))
 }
 
 fn not_swappable(source: u32, node: u64) -> u32
@@ -112,14 +122,14 @@ fn retire_by(node: u64, state: u32, linked: bool, damaged: bool) -> u32
     25
 }
 
-fn not_retirable(sources: &[u32], nodes: &[u32], node: u64) -> u32
-    ensures { λ n. ⌜ n ≡ notRetirable (now (sources .entry)) (now (nodes .entry)) node ⌝ }
+fn not_retirable(ids: &[u32], state: &[u32], node: u64) -> u32
+    ensures { λ n. ⌜ n ≡ notRetirable (part fromSources sources (now (ids .entry))) (now (state .entry)) node ⌝ }
 {
     let n = cut(node);
-    let at = tables::at_in(tables::address(Named::NodeState(n)), tables::IN_NODES);
-    let state = tables::id(nodes, at as usize);
-    let linked = rows::is_in(sources, n);
-    retire_by(node, state, linked, rows::is_above(sources, NODES))
+    let at = tables::at_in(tables::address(Named::NodeState(n)), tables::IN_STATE);
+    let is = tables::id(state, at as usize);
+    let linked = rows::linked(ids, n);
+    retire_by(node, is, linked, rows::unsound(ids))
 }
 
 // 27: a thread is inside an operation, or a record is owned.
@@ -135,36 +145,29 @@ fn busy_by(inside: bool, owned: bool) -> u32
     0
 }
 
-fn busy(rows32: &[u32], records: &[u32]) -> u32
-    ensures { λ n. ⌜ n ≡ busy (now (rows32 .entry)) (now (records .entry)) ⌝ }
+fn busy(ids: &[u32]) -> u32
+    ensures { λ n. ⌜ n ≡ busy (drop fromRows (now (ids .entry))) (part fromRecords (4 * records) (now (ids .entry))) ⌝ }
 {
-    busy_by(rows::inside(rows32), rows::owned(records))
+    busy_by(rows::inside(ids), rows::owned(ids))
 }
 
 // The refusal of the operation itself.
-fn refusal(
-    records: &[u32],
-    sources: &[u32],
-    nodes: &[u32],
-    rows32: &[u32],
-    t: u32,
-    o: Operation,
-) -> u32
-    ensures { λ n. ⌜ n ≡ refusal (now (records .entry)) (now (sources .entry)) (now (nodes .entry)) (now (rows32 .entry)) t o ⌝ }
+fn refusal(ids: &[u32], state: &[u32], t: u32, o: Operation) -> u32
+    ensures { λ n. ⌜ n ≡ refusal (part fromRecords (4 * records) (now (ids .entry))) (part fromSources sources (now (ids .entry))) (now (state .entry)) (drop fromRows (now (ids .entry))) t o ⌝ }
 {
     match o {
         Operation::Acquire => 0,
-        Operation::Release { rec } => not_owned(records, t, rec),
-        Operation::Protect { rec, source } => not_protectable(records, t, rec, source),
-        Operation::Try { rec, source, node } => not_tryable(records, t, rec, source, node),
-        Operation::TryProtect { rec, source, node } => not_tryable(records, t, rec, source, node),
-        Operation::Reset { rec } => not_owned(records, t, rec),
-        Operation::Raw { rec, node } => not_raw(records, t, rec, node),
+        Operation::Release { rec } => not_owned(ids, t, rec),
+        Operation::Protect { rec, source } => not_protectable(ids, t, rec, source),
+        Operation::Try { rec, source, node } => not_tryable(ids, t, rec, source, node),
+        Operation::TryProtect { rec, source, node } => not_tryable(ids, t, rec, source, node),
+        Operation::Reset { rec } => not_owned(ids, t, rec),
+        Operation::Raw { rec, node } => not_raw(ids, t, rec, node),
         Operation::Swap { source, node } => not_swappable(source, node),
-        Operation::Retire { node, address: _ } => not_retirable(sources, nodes, node),
+        Operation::Retire { node, address: _ } => not_retirable(ids, state, node),
         Operation::Eager => 0,
         Operation::Cleanup => 0,
-        Operation::Shutdown => busy(rows32, records),
+        Operation::Shutdown => busy(ids),
     }
 }
 
@@ -191,19 +194,10 @@ fn refuse_by(mark: u32, place: u32, n: u32) -> u32
 }
 
 // The refusal of a start, 0 if there is none.
-pub fn refuse(
-    heads: &[u32],
-    counters: &[u64],
-    records: &[u32],
-    sources: &[u32],
-    nodes: &[u32],
-    rows32: &[u32],
-    t: u32,
-    o: Operation,
-) -> u32
-    ensures { λ n. ⌜ n ≡ refuseOf (shared (now (heads .entry)) (now (counters .entry)) (now (records .entry)) (now (sources .entry)) (now (nodes .entry))) (now (rows32 .entry)) t o ⌝ }
+pub fn refuse(ids: &[u32], state: &[u32], t: u32, o: Operation) -> u32
+    ensures { λ n. ⌜ ((next words guards : List ℕ) → n ≡ refuseOf (lent (now (ids .entry)) next (now (state .entry)) words guards) t o) ⌝ }
 {
-    let mark = tables::id(heads, 2);
-    let place = tables::id(rows32, t as usize * rows::ROW32);
-    refuse_by(mark, place, refusal(records, sources, nodes, rows32, t, o))
+    let mark = tables::id_in(ids, 0, HEAD_CELLS, 2);
+    let place = tables::id_from(ids, FROM_ROWS, t as usize * rows::ROW32);
+    refuse_by(mark, place, refusal(ids, state, t, o))
 }

@@ -1,1 +1,3 @@
+pub mod StoredLaws
+pub mod PartLaws
 pub mod CellLaws

@@ -1,23 +1,34 @@
 // The shared cells: where each stands, whether a content is in its range, and one cell read or written in the lent tables.
 ghost use mathlib.Core.Path.{_≡_};
+ghost use mathlib.Core.List.{[]};
 ghost use Prim.Native.Nat.{_+_, _*_, _<_, _%_, _^_};
-ghost use lib.ListN.{length, getD, set, replicate};
+ghost use lib.ListN.{getD, set, drop, replicate};
 ghost use Rattle.base.specs.Pick.{pick};
-ghost use Rattle.rules.specs.Cells.{address, accessed, inRange, cellAt, nothing, wordOf, unread};
-ghost use Rattle.rules.specs.Step.{shared, fetched, atIn, written, cellsGiven};
+ghost use Rattle.rules.specs.Sizes.{records, fromRecords};
+ghost use Rattle.rules.specs.Cells.{address, accessed, inRange, cellAt, nothing, wordOf, unread, counters};
+ghost use Rattle.rules.specs.Rows.{storedFrom};
+ghost use Rattle.rules.specs.Step.{part, sharedIn, lent, fetched, atIn, written, cellsGiven};
 ghost use Rattle.rules.specs.Words.{plus};
+ghost use Rattle.tables.specs.PartLaws.{setIn, onCells};
+ghost use Rattle.tables.specs.CellLaws.{idsPut};
 use rules::Access;
+use rules::COUNTER_CELLS;
 use rules::Cell;
 use rules::Class;
 use rules::Effect;
+use rules::FROM_RECORDS;
+use rules::FROM_SOURCES;
+use rules::HEAD_CELLS;
 use rules::NODES;
 use rules::Named;
+use rules::RECORD_CELLS;
 use rules::RECORDS;
 use rules::SHARDS;
+use rules::SOURCE_CELLS;
 use rules::SOURCES;
 use rules::THREADS;
 
-// The tables, by the rules' numbers.
+// The tables and their parts, by the rules' numbers.
 const HEADS: u32 = 1;
 
 const COUNTERS: u32 = 2;
@@ -26,7 +37,9 @@ pub const IN_RECORDS: u32 = 3;
 
 const IN_SOURCES: u32 = 4;
 
-pub const IN_NODES: u32 = 5;
+const IN_NEXT: u32 = 5;
+
+pub const IN_STATE: u32 = 6;
 
 // The largest contents.
 const RECORD_MOST: u64 = RECORDS as u64;
@@ -105,8 +118,8 @@ pub fn address(n: Named) -> Cell
         Named::RecordNext(r) => word_of(IN_RECORDS, RECORDS, 4, r, 2, Class::ARecord),
         Named::Holder(r) => word_of(IN_RECORDS, RECORDS, 4, r, 3, Class::AHolder),
         Named::Source(b) => word_of(IN_SOURCES, SOURCES, 1, b, 0, Class::ANode),
-        Named::NodeNext(n) => word_of(IN_NODES, NODES, 2, n, 0, Class::ANode),
-        Named::NodeState(n) => word_of(IN_NODES, NODES, 2, n, 1, Class::AState),
+        Named::NodeNext(n) => word_of(IN_NEXT, NODES, 1, n, 0, Class::ANode),
+        Named::NodeState(n) => word_of(IN_STATE, NODES, 1, n, 0, Class::AState),
     }
 }
 
@@ -211,6 +224,54 @@ pub fn put_word(t: &mut [u64], at: usize, v: u64)
     }
 }
 
+// A word of what a table holds from `from` on, 0 past its end.
+pub fn id_from(t: &[u32], from: usize, at: usize) -> u32
+    ensures { λ r. ⌜ r ≡ getD (drop from (now (t .entry))) at 0 ⌝ }
+{
+    if from < t.len() {
+        if at < t.len() - from {
+            return t[from + at];
+        }
+        return 0;
+    }
+    0
+}
+
+pub fn word_from(t: &[u64], from: usize, at: usize) -> u64
+    ensures { λ r. ⌜ r ≡ getD (drop from (now (t .entry))) at 0 ⌝ }
+{
+    if from < t.len() {
+        if at < t.len() - from {
+            return t[from + at];
+        }
+        return 0;
+    }
+    0
+}
+
+// A word of the part of n words from `from` on, 0 past its end.
+pub fn id_in(t: &[u32], from: usize, n: usize, at: usize) -> u32
+    ensures { λ r. ⌜ r ≡ getD (part from n (now (t .entry))) at 0 ⌝ }
+{
+    if at < n {
+        return id_from(t, from, at);
+    }
+    0
+}
+
+// Whose word `at` becomes v.
+fn put_in(t: &mut [u32], from: usize, n: usize, at: usize, v: u32)
+    ensures { λ _. ⌜ now (t .exit) ≡ setIn from n (now (t .entry)) at v ⌝ }
+{
+    if at < n {
+        if from < t.len() {
+            if at < t.len() - from {
+                t[from + at] = v;
+            }
+        }
+    }
+}
+
 // An id, to be seen as any other content.
 fn wide(x: u32) -> u64
     ensures { λ r. ⌜ r ≡ x ⌝ }
@@ -224,32 +285,36 @@ fn read32(t: &[u32], at: u32) -> u64
     wide(id(t, at as usize))
 }
 
-fn read64(t: &[u64], at: u32) -> u64
-    ensures { λ r. ⌜ r ≡ getD (now (t .entry)) at 0 ⌝ }
+fn read_in(t: &[u32], from: usize, n: usize, at: u32) -> u64
+    ensures { λ r. ⌜ r ≡ getD (part from n (now (t .entry))) at 0 ⌝ }
 {
-    word(t, at as usize)
+    wide(id_in(t, from, n, at as usize))
+}
+
+// A counter.
+pub fn counter(words: &[u64], at: u32) -> u64
+    ensures { λ r. ⌜ r ≡ getD (part 0 5 (now (words .entry))) at 0 ⌝ }
+{
+    if (at as usize) < COUNTER_CELLS {
+        return word(words, at as usize);
+    }
+    0
 }
 
 // The cell's content.
-pub fn fetch(
-    heads: &[u32],
-    counters: &[u64],
-    records: &[u32],
-    sources: &[u32],
-    nodes: &[u32],
-    c: Cell,
-) -> u64
-    ensures { λ r. ⌜ r ≡ fetched (shared (now (heads .entry)) (now (counters .entry)) (now (records .entry)) (now (sources .entry)) (now (nodes .entry))) c ⌝ }
+pub fn fetch(ids: &[u32], next: &[u32], state: &[u32], words: &[u64], c: Cell) -> u64
+    ensures { λ r. ⌜ r ≡ fetched (sharedIn (now (ids .entry)) (now (next .entry)) (now (state .entry)) (now (words .entry))) c ⌝ }
 {
     let table = c.table;
     let at = c.at;
     match table {
         0 => 0,
-        HEADS => read32(heads, at),
-        COUNTERS => read64(counters, at),
-        IN_RECORDS => read32(records, at),
-        IN_SOURCES => read32(sources, at),
-        IN_NODES => read32(nodes, at),
+        HEADS => read_in(ids, 0, HEAD_CELLS, at),
+        COUNTERS => counter(words, at),
+        IN_RECORDS => read_in(ids, FROM_RECORDS, RECORD_CELLS, at),
+        IN_SOURCES => read_in(ids, FROM_SOURCES, SOURCE_CELLS, at),
+        IN_NEXT => read32(next, at),
+        IN_STATE => read32(state, at),
         _ => 0,
     }
 }
@@ -271,36 +336,57 @@ fn cut(v: u64) -> u32
     (v % 4294967296) as u32
 }
 
-// The cell becomes v where it is of table k, which is t.
+// The cell becomes v where it is of table k, which is t, or its part of n words from `from` on.
 fn put32(t: &mut [u32], c: Cell, k: u32, v: u64)
     ensures { λ _. ⌜ now (t .exit) ≡ set (now (t .entry)) (atIn c k) (v % 2 ^ 32) ⌝ }
 {
     put_id(t, at_in(c, k) as usize, cut(v));
 }
 
-fn put64(t: &mut [u64], c: Cell, k: u32, v: u64)
-    ensures { λ _. ⌜ now (t .exit) ≡ set (now (t .entry)) (atIn c k) v ⌝ }
+fn put_part(t: &mut [u32], from: usize, n: usize, c: Cell, k: u32, v: u64)
+    ensures { λ _. ⌜ now (t .exit) ≡ setIn from n (now (t .entry)) (atIn c k) (v % 2 ^ 32) ⌝ }
 {
-    put_word(t, at_in(c, k) as usize, v);
+    put_in(t, from, n, at_in(c, k) as usize, cut(v));
+}
+
+fn put_counter(words: &mut [u64], at: u32, v: u64)
+    ensures { λ _. ⌜ now (words .exit) ≡ setIn 0 5 (now (words .entry)) at v ⌝ }
+{
+    if (at as usize) < COUNTER_CELLS {
+        put_word(words, at as usize, v);
+    }
+}
+
+fn put64(words: &mut [u64], c: Cell, v: u64)
+    ensures { λ _. ⌜ now (words .exit) ≡ setIn 0 5 (now (words .entry)) (atIn c counters) v ⌝ }
+{
+    put_counter(words, at_in(c, COUNTERS), v);
+}
+
+// The cell becomes v in the table of ids.
+fn write_ids(ids: &mut [u32], c: Cell, v: u64)
+    ensures { λ _. ⌜ now (ids .exit) ≡ idsPut c (v % 2 ^ 32) (now (ids .entry)) ⌝ }
+{
+    put_part(ids, 0, HEAD_CELLS, c, HEADS, v);
+    put_part(ids, FROM_RECORDS, RECORD_CELLS, c, IN_RECORDS, v);
+    put_part(ids, FROM_SOURCES, SOURCE_CELLS, c, IN_SOURCES, v);
 }
 
 // The cell becomes v.
 pub fn write(
-    heads: &mut [u32],
-    counters: &mut [u64],
-    records: &mut [u32],
-    sources: &mut [u32],
-    nodes: &mut [u32],
+    ids: &mut [u32],
+    next: &mut [u32],
+    state: &mut [u32],
+    words: &mut [u64],
     c: Cell,
     v: u64,
 )
-    ensures { λ _. ⌜ shared (now (heads .exit)) (now (counters .exit)) (now (records .exit)) (now (sources .exit)) (now (nodes .exit)) ≡ written (shared (now (heads .entry)) (now (counters .entry)) (now (records .entry)) (now (sources .entry)) (now (nodes .entry))) c v ⌝ }
+    ensures { λ _. ⌜ lent (now (ids .exit)) (now (next .exit)) (now (state .exit)) (now (words .exit)) [] ≡ onCells (λ s. written s c v) (lent (now (ids .entry)) (now (next .entry)) (now (state .entry)) (now (words .entry)) []) ⌝ }
 {
-    put32(heads, c, HEADS, v);
-    put64(counters, c, COUNTERS, v);
-    put32(records, c, IN_RECORDS, v);
-    put32(sources, c, IN_SOURCES, v);
-    put32(nodes, c, IN_NODES, v);
+    write_ids(ids, c, v);
+    put32(next, c, IN_NEXT, v);
+    put32(state, c, IN_STATE, v);
+    put64(words, c, v);
 }
 
 fn cell_if(c: Cell, writes: bool) -> Cell
@@ -316,51 +402,52 @@ fn cell_if(c: Cell, writes: bool) -> Cell
     }
 }
 
-// Every word becomes 0.
-pub fn clear(t: &mut [u32])
-    ensures { λ _. ⌜ now (t .exit) ≡ replicate (length (now (t .entry))) 0 ⌝ }
+// Every record cell becomes 0.
+fn clear_records(ids: &mut [u32])
+    ensures { λ _. ⌜ now (ids .exit) ≡ storedFrom (now (ids .entry)) fromRecords (replicate (4 * records) 0) ⌝ }
 {
-    for i in 0..t.len() {
-        t[i] = 0;
+    let mut i = 0usize;
+    while i < RECORD_CELLS {
+        put_id(ids, FROM_RECORDS + i, 0);
+        i += 1;
     }
 }
 
 // The end of a shutdown clears the records, their list and the available list.
-fn close(heads: &mut [u32], records: &mut [u32], closes: bool)
-    ensures { λ _. ⌜ (now (heads .exit) ≡ pick closes (set (set (now (heads .entry)) 0 0) 1 0) (now (heads .entry))) × (now (records .exit) ≡ pick closes (replicate (length (now (records .entry))) 0) (now (records .entry))) ⌝ }
+fn close(ids: &mut [u32], closes: bool)
+    ensures { λ _. ⌜ now (ids .exit) ≡ pick closes (storedFrom (set (set (now (ids .entry)) 0 0) 1 0) fromRecords (replicate (4 * records) 0)) (now (ids .entry)) ⌝ }
 {
     if closes {
-        put_id(heads, 0, 0);
-        put_id(heads, 1, 0);
-        clear(records);
+        put_id(ids, 0, 0);
+        put_id(ids, 1, 0);
+        clear_records(ids);
     }
 }
 
 // One step more was taken.
-fn tick(counters: &mut [u64])
-    ensures { λ _. ⌜ now (counters .exit) ≡ set (now (counters .entry)) 4 (plus (getD (now (counters .entry)) 4 0) 1) ⌝ }
+fn tick(words: &mut [u64])
+    ensures { λ _. ⌜ now (words .exit) ≡ set (now (words .entry)) 4 (plus (getD (now (words .entry)) 4 0) 1) ⌝ }
 {
-    let n = word(counters, 4);
-    put_word(counters, 4, std::num::wrapping_add_u64(n, 1));
+    let n = word(words, 4);
+    put_word(words, 4, std::num::wrapping_add_u64(n, 1));
 }
 
 // What a step's effect makes of the shared cells, c being the cell that it accessed.
 pub fn cells_given(
-    heads: &mut [u32],
-    counters: &mut [u64],
-    records: &mut [u32],
-    sources: &mut [u32],
-    nodes: &mut [u32],
+    ids: &mut [u32],
+    next: &mut [u32],
+    state: &mut [u32],
+    words: &mut [u64],
     c: Cell,
     e: Effect,
 )
-    ensures { λ _. ⌜ shared (now (heads .exit)) (now (counters .exit)) (now (records .exit)) (now (sources .exit)) (now (nodes .exit)) ≡ cellsGiven (shared (now (heads .entry)) (now (counters .entry)) (now (records .entry)) (now (sources .entry)) (now (nodes .entry))) c e ⌝ }
+    ensures { λ _. ⌜ lent (now (ids .exit)) (now (next .exit)) (now (state .exit)) (now (words .exit)) [] ≡ onCells (λ s. cellsGiven s c e) (lent (now (ids .entry)) (now (next .entry)) (now (state .entry)) (now (words .entry)) []) ⌝ }
 {
     let d = cell_if(c, e.writes);
-    write(heads, counters, records, sources, nodes, d, e.put);
+    write(ids, next, state, words, d, e.put);
     let also = e.also;
     let a = address(also);
-    write(heads, counters, records, sources, nodes, a, e.to);
-    close(heads, records, e.closes);
-    tick(counters);
+    write(ids, next, state, words, a, e.to);
+    close(ids, e.closes);
+    tick(words);
 }

@@ -2,7 +2,7 @@
 use Prim.Native.Nat.{_-_}
 use Rattle.rows.proofs.copy64.Statement.{statement}
 use Rattle.rows.proofs.copy64.Tie as tie
-use Rattle.rows.specs.CopyLaws.{Storing, storing-none, storing-more, storing-all}
+use Rattle.tables.specs.StoredLaws.{Storing, storing-none, storing-more, storing-all}
 use borrow.Author.Needs.{needs}
 use lib.ListN.{length}
 use mathlib.Core.Path.{_≡_, refl}

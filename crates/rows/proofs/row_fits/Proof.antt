@@ -5,16 +5,17 @@ use Rattle.rows.proofs.row_fits.Tie as tie
 use Rattle.base.specs.Searches.{Going}
 use Rattle.rows.specs.SearchLaws.{within-found, within-on, within-out}
 use Rattle.rules.specs.Rows.{within, rowMost, rowFits}
-use Rattle.rules.specs.Sizes.{base}
+use Rattle.rules.specs.Sizes.{base, fromRows}
 use borrow.Author.Needs.{needs}
+use lib.ListN.{drop}
 use mathlib.Core.Path.{refl}
 use native.Mathlib.Omega.{arith}
 
 abbrev Inv-loop : tie.InvT-loop
-Inv-loop rows32 t b i₀ i = Going (within (rowMost base) rows32 (t * 21)) 21 i (rowFits base rows32 t)
+Inv-loop ids t b i₀ i = Going (within (rowMost base) (drop fromRows ids) (t * 21)) 21 i (rowFits base (drop fromRows ids) t)
 
 abbrev μ-loop : tie.MeasureT-loop
-μ-loop rows32 t b i₀ i = 21 - i
+μ-loop ids t b i₀ i = 21 - i
 
 loop-holds : tie.Need-loop-holds Inv-loop μ-loop
 loop-holds c = refl

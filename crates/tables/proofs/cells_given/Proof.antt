@@ -6,10 +6,10 @@ use borrow.Author.Needs.{needs}
 
 returns : tie.Need-returns
 returns c =
-    let closing = c .before .before .before .before .before .before .before .before in
-    let second = closing .before .before .before .before .before .before .before .before .before .before .before .before .before in
-    let first = second .before .before .before .before .before .before .before .before .before .before .before .before .before .before .before .before .before in
-    gave _ _ _ _ _ _ _ _ _ _ _ _ _ _ _ _ _ _ (first .before .before .before .before .before .before .cell-if .ensures) (first .write .ensures) (second .before .before .before .before .before .before .address .ensures) (second .write2 .ensures) (closing .close .ensures .0) (closing .close .ensures .1) (c .before .before .tick .ensures)
+    let closing = c .before .before .before .before .before .before in
+    let second = closing .before .before .before .before .before .before .before .before .before .before in
+    let first = second .before .before .before .before .before .before .before .before .before .before .before .before .before .before in
+    gave _ _ _ _ _ _ _ _ _ _ _ _ _ _ _ (first .before .before .before .before .before .cell-if .ensures) (first .write .ensures) (second .before .before .before .before .before .address .ensures) (second .write2 .ensures) (closing .close .ensures) (c .before .before .tick .ensures)
 
 pub cells-given-spec : {M : Type 1} → statement M
 cells-given-spec =
@@ -21,7 +21,6 @@ cells-given-spec =
     (λ c κs. search needs)
     (λ c κs. search needs)
     (λ c κs. search needs)
-    (λ c. search needs)
     (λ c. search needs)
     (λ c. search needs)
     (λ c. search needs)

@@ -1,10 +1,8 @@
 -- `tables::close` meets its contract.
+use Rattle.base.specs.Pick.{cases}
 use Rattle.tables.proofs.close.Statement.{statement}
 use Rattle.tables.proofs.close.Tie as tie
 use borrow.Author.Needs.{needs}
-
-returns : tie.Need-returns
-returns c = (cc, cc)
 
 pub close-spec : {M : Type 1} → statement M
 close-spec =
@@ -14,6 +12,5 @@ close-spec =
     (λ c κs. search needs)
     (λ c κs. search needs)
     (λ c. search needs)
-    (λ c. search needs)
-    returns
-    (λ c. search needs))
+    (λ c. cc)
+    (λ c. search cases))

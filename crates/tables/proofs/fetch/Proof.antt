@@ -6,8 +6,8 @@ use Rattle.tables.proofs.fetch.Tie as tie
 use Rattle.tables.specs.CellLaws.{fetched-in, fetched-none}
 use borrow.Author.Needs.{needs}
 
-returns-7 : tie.Need-returns-7
-returns-7 c = fetched-none _ _ (past 6 _ (c .match .rest))
+returns-8 : tie.Need-returns-8
+returns-8 c = fetched-none _ _ (past 7 _ (c .match .rest))
 
 pub fetch-spec : {M : Type 1} → statement M
 unfolding fetched
@@ -19,10 +19,12 @@ fetch-spec =
     (λ c κs. search needs)
     (λ c κs. search needs)
     (λ c κs. search needs)
+    (λ c κs. search needs)
     (λ c. search needs)
     (λ c. search fetched-in)
     (λ c. search fetched-in)
     (λ c. search fetched-in)
     (λ c. search fetched-in)
     (λ c. search fetched-in)
-    returns-7)
+    (λ c. search fetched-in)
+    returns-8)

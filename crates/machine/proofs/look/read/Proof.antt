@@ -1,8 +1,13 @@
 -- `look::read` meets its contract. Assumes nothing.
 use Rattle.machine.specs.StepLaws.{has-read}
+use Rattle.rules.specs.Step.{lent}
 use borrow.Author.Needs.{needs}
 use Rattle.machine.proofs.look.read.Statement.{statement}
 use Rattle.machine.proofs.look.read.Tie as tie
+
+returns : tie.Need-returns
+unfolding lent
+returns c = has-read _ _ _ _ _ _ _ _ _ _ _ _ _ (c .seen .ensures) (c .before .guarded-at .ensures) (c .before .before .first .ensures) (c .before .before .before .fetch2 .ensures) (c .before .before .before .before .fetch .ensures)
 
 pub read-spec : {M : Type 1} → statement M
 read-spec =
@@ -13,4 +18,4 @@ read-spec =
     (λ c κs. search needs)
     (λ c κs. search needs)
     (λ c κs. search needs)
-    (λ c. search has-read))
+    returns)

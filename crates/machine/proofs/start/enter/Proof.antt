@@ -4,6 +4,9 @@ use borrow.Author.Needs.{needs}
 use Rattle.machine.proofs.start.enter.Statement.{statement}
 use Rattle.machine.proofs.start.enter.Tie as tie
 
+returns : tie.Need-returns
+returns c = has-entered _ _ _ _ _ _ _ _ _ _ _ _ _ (c .before .before .before .before .before .before .before .before .before .before .before .before .before .before .before .write .ensures) (c .before .before .before .before .before .before .before .before .before .before .before .before .before .before .before .before .address .ensures) (c .before .before .before .before .store-row .ensures)
+
 pub enter-spec : {M : Type 1} → statement M
 enter-spec =
     tie.close
@@ -15,7 +18,4 @@ enter-spec =
     (λ c. search needs)
     (λ c. search needs)
     (λ c. search needs)
-    (λ c. search needs)
-    (λ c. search needs)
-    (λ c. search needs)
-    (λ c. λ g. has-entered _ _ _ _ _ _ _ _ _ _ _ _ _ g (c .before .before .before .before .before .before .before .before .before .before .before .before .before .before .before .before .before .write .ensures) (c .before .before .before .before .before .before .before .before .before .before .before .before .before .before .before .before .before .before .address .ensures) (c .before .before .before .before .store-row .ensures .0) (c .before .before .before .before .store-row .ensures .1)))
+    returns)

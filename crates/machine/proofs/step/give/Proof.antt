@@ -4,6 +4,9 @@ use borrow.Author.Needs.{needs}
 use Rattle.machine.proofs.step.give.Statement.{statement}
 use Rattle.machine.proofs.step.give.Tie as tie
 
+returns : tie.Need-returns
+returns c = gave _ _ _ _ _ _ _ _ _ _ _ _ _ _ _ (c .before .before .before .before .before .before .before .before .before .before .before .before .before .before .before .before .before .before .before .cells-given .ensures) (c .before .before .before .before .before .before .before .before .store-row .ensures) (c .before .before .guards-given .ensures)
+
 pub give-spec : {M : Type 1} → statement M
 give-spec =
     tie.close
@@ -16,7 +19,4 @@ give-spec =
     (λ c. search needs)
     (λ c. search needs)
     (λ c. search needs)
-    (λ c. search needs)
-    (λ c. search needs)
-    (λ c. search needs)
-    (λ c. search gave))
+    returns)

@@ -11,7 +11,4 @@ sized-spec =
     (λ c. search cases)
     (λ c. search cases)
     (λ c. search cases)
-    (λ c. search cases)
-    (λ c. search cases)
-    (λ c. search cases)
     (λ c. search cases))
