@@ -3,7 +3,7 @@ use Prim.Native.Nat.{ℕ, zero, suc, _+_, _*_, _-_, _^_, _≤_, _<_}
 use mathlib.Core.Path.{_≡_, refl, sym, ap, _∙_}
 use mathlib.Core.Logic.{_≢_, _⊎_, inl, inr}
 use mathlib.Core.Bool.{Bool, true, false, true≢false}
-use mathlib.Core.List.{List, [], _∷_}
+use mathlib.Core.List.{List}
 use lib.ListN.{length, getD, List·getD-eq-default}
 use lib.Dec.{eqb, ltb}
 use borrow.Author.Tests.{eqb-true, eqb-false, ltb-true, ltb-false, le-ltb}
@@ -20,7 +20,7 @@ use Rattle.rules.specs.declared.Class.the-variants.{AState, AHolder}
 use Rattle.rules.specs.Rows.{rowAt}
 use Rattle.rules.specs.Step.{State, Out, out, answer, refused, sizes, atIn}
 use Rattle.rules.specs.Facts.{retire-unlinked, shutdown-alone}
-use Rattle.rules.specs.Start.{isIn, isAbove, anyAbove, narrow, orElse, notOwned, notSource, notNode, retireBy, notRetirable, busyBy, busy, refusal, refuseBy, refuseOf, begins, entered, ofNull, startIn, startOf}
+use Rattle.rules.specs.Start.{anyIs, anyAbove, narrow, orElse, notOwned, notSource, notNode, retireBy, notRetirable, busyBy, busy, refusal, refuseBy, refuseOf, begins, entered, ofNull, startIn, startOf}
 use Rattle.rules.specs.declared.Operation.{Operation}
 use Rattle.rules.specs.declared.Operation.the-variants.{Acquire, Release, Protect, Try, TryProtect, Reset, Raw, Swap, Retire, Eager, Cleanup, Shutdown}
 use Rattle.rules.specs.declared.Named.the-variants as cell
@@ -96,18 +96,15 @@ module _ (l : List ℕ) (n w k : ℕ) (class : Class) (table : ℕ) (small : len
           (d, field-get w n l k id d ∙ (rw t1 at q))
 
 -- ---- searches that found nothing
-none-in : (n : ℕ) (l : List ℕ) → isIn n l ≡ false → n ≢ 0 → (b : ℕ) → getD l b 0 ≢ n
-none-in n [] h nz b e = nz (sym e)
-none-in n (x ∷ l) h nz zero e = first (eqb x n) refl h
+none-is : (l : List ℕ) (x i n : ℕ) → anyIs l x i n ≡ false → (j : ℕ) → i ≤ j → j < i + n → getD l j 0 ≢ x
+unfolding anyIs
+none-is l x i zero h j p q = absurd (omega arith)
+none-is l x i (suc n) h j p q = go (eqb (getD l i 0) x) refl h (decLt i j) (λ e lt. none-is l x (i + 1) n e j (omega arith) (omega arith))
   where
-    first : (b : Bool) → eqb x n ≡ b → pick b true (isIn n l) ≡ false → ⊥
-    first true q k = true≢false k
-    first false q k = eqb-false x n q e
-none-in n (x ∷ l) h nz (suc b) e = none-in n l (rest (eqb x n) h) nz b e
-  where
-    rest : (b : Bool) → pick b true (isIn n l) ≡ false → isIn n l ≡ false
-    rest true k = absurd (true≢false k)
-    rest false k = k
+    go : (b : Bool) → eqb (getD l i 0) x ≡ b → pick b true (anyIs l x (i + 1) n) ≡ false → Dec (i < j) → (anyIs l x (i + 1) n ≡ false → i < j → getD l j 0 ≢ x) → getD l j 0 ≢ x
+    go true e f d rest = absurd (true≢false f)
+    go false e f (yes lt) rest = rest f lt
+    go false e f (no ge) rest = let q : i ≡ j = omega arith in rw q at (eqb-false (getD l i 0) x e)
 
 none-above : (l : List ℕ) (m w k i n : ℕ) → anyAbove l m w k i n ≡ false → (j : ℕ) → i ≤ j → j < i + n → getD l (j * w + k) 0 ≤ m
 unfolding anyAbove
@@ -139,30 +136,30 @@ module _ (s : State) (z : Sized s) (t : ℕ) where
   swappable : (b n : ℕ) → orElse (notSource b) (notNode n) ≡ 0 → IsId sources b × (n ≤ nodes)
   swappable b n h = let p = both-0 (notSource b) (notNode n) h in (source-in b (p .0), node-in n (p .1))
 
-  sources-none : (n : ℕ) → n ≢ 0 → isIn n (s .cells .sources) ≡ false → (b : ℕ) → getD (viewOf s .sources) b 0 ≢ n
+  sources-none : (n : ℕ) → n ≢ 0 → anyIs (s .cells .sources) n 0 sources ≡ false → (b : ℕ) → getD (viewOf s .sources) b 0 ≢ n
   unfolding viewOf
   sources-none n nz h zero e = nz (sym e)
   sources-none n nz h (suc b) e = go (decLt b sources)
     where
       go : Dec (b < sources) → ⊥
-      go (yes q) = none-in n (s .cells .sources) h nz (b * 1 + 0) (sym (tab-get sources (λ i. getD (s .cells .sources) (i * 1 + 0) 0) b 0 q) ∙ e)
+      go (yes q) = none-is (s .cells .sources) n 0 sources h (b * 1 + 0) (omega arith) (omega arith) (sym (tab-get sources (λ i. getD (s .cells .sources) (i * 1 + 0) 0) b 0 q) ∙ e)
       go (no q) = nz (sym e ∙ List·getD-eq-default (tab sources (λ i. getD (s .cells .sources) (i * 1 + 0) 0)) 0 (omega (arith, tab-length sources (λ i. getD (s .cells .sources) (i * 1 + 0) 0))))
 
-  state-at : (m : ℕ) → getD (s .cells .nodes) (atIn (address (cell.NodeState m)) Cells.inNodes) 0 ≡ 1 → IsId nodes m × (getD (viewOf s .nodes .state) m 0 ≡ 1)
+  state-at : (m : ℕ) → getD (s .cells .state) (atIn (address (cell.NodeState m)) Cells.inState) 0 ≡ 1 → IsId nodes m × (getD (viewOf s .nodes .state) m 0 ≡ 1)
   unfolding viewOf address
-  state-at m q = word-at (s .cells .nodes) nodes 2 1 AState 5 (omega (arith, z .cells .nodes)) m 1 q refl refl (omega arith)
+  state-at m q = word-at (s .cells .state) nodes 1 0 AState 6 (omega (arith, z .cells .state)) m 1 q refl refl (omega arith)
 
-  retirable : (n x : ℕ) → notRetirable (s .cells .sources) (s .cells .nodes) n ≡ 0 → Admitted (viewOf s) t (Retire n x)
+  retirable : (n x : ℕ) → notRetirable (s .cells .sources) (s .cells .state) n ≡ 0 → Admitted (viewOf s) t (Retire n x)
   unfolding notRetirable
   retirable n x h =
       let a = fails (eqb n 0) 24 _ (omega arith) h in
       let b = fails (ltb nodes n) 24 _ (omega arith) (a .1) in
-      let c = holds (eqb (getD (s .cells .nodes) (atIn (address (cell.NodeState (narrow n))) Cells.inNodes) 0) 1) 25 _ (omega arith) (b .1) in
+      let c = holds (eqb (getD (s .cells .state) (atIn (address (cell.NodeState (narrow n))) Cells.inState) 0) 1) 25 _ (omega arith) (b .1) in
       let le = ltb-false nodes n (b .0) in
       let ne = eqb-false n 0 (a .0) in
       let same : narrow n ≡ n = omega arith in
       let w = state-at (narrow n) (eqb-true _ 1 (c .0)) in
-      (rw same at (w .0), rw same at (w .1), sources-none n ne (rw same at (retire-unlinked n (getD (s .cells .nodes) (atIn (address (cell.NodeState (narrow n))) Cells.inNodes) 0) (isIn (narrow n) (s .cells .sources)) (isAbove nodes (s .cells .sources)) h)))
+      (rw same at (w .0), rw same at (w .1), sources-none n ne (rw same at (retire-unlinked n (getD (s .cells .state) (atIn (address (cell.NodeState (narrow n))) Cells.inState) 0) (anyIs (s .cells .sources) (narrow n) 0 sources) (anyAbove (s .cells .sources) nodes 1 0 0 sources) h)))
 
   nobody : anyAbove (s .rows32) 0 row32 0 0 threads ≡ false → (u : ℕ) → u < threads → rowIn (viewOf s) u .place ≡ 0
   unfolding rowAt
@@ -181,7 +178,7 @@ module _ (s : State) (z : Sized s) (t : ℕ) where
   unfolding busy
   idle-all h = let a = shutdown-alone (anyAbove (s .rows32) 0 row32 0 0 threads) (anyAbove (s .cells .records) 1 4 3 0 records) h in (nobody (a .0), unowned (a .1))
 
-  admitted : (o : Operation) → refusal (s .cells .records) (s .cells .sources) (s .cells .nodes) (s .rows32) t o ≡ 0 → Admitted (viewOf s) t o
+  admitted : (o : Operation) → refusal (s .cells .records) (s .cells .sources) (s .cells .state) (s .rows32) t o ≡ 0 → Admitted (viewOf s) t o
   unfolding refusal
   admitted Acquire h = tt
   admitted (Release a) h = owned a h
@@ -217,7 +214,7 @@ module _ (P : ℕ → Type 0) (none : P 0) (high : (n : ℕ) → 16 < n → n �
   busy-all : (a b : Bool) → P (busyBy a b)
   busy-all a b = pick-case P a _ _ (λ _. high 27 (omega arith) (omega arith)) (λ _. pick-case P b _ _ (λ _. high 27 (omega arith) (omega arith)) (λ _. none))
 
-  refusal-all : (s : State) (t : ℕ) (o : Operation) → (isAbove nodes (s .cells .sources) ≡ true → P 29) → P (refusal (s .cells .records) (s .cells .sources) (s .cells .nodes) (s .rows32) t o)
+  refusal-all : (s : State) (t : ℕ) (o : Operation) → (anyAbove (s .cells .sources) nodes 1 0 0 sources ≡ true → P 29) → P (refusal (s .cells .records) (s .cells .sources) (s .cells .state) (s .rows32) t o)
   unfolding refusal notRetirable busy
   refusal-all s t Acquire d = none
   refusal-all s t (Release a) d = owned-all (s .cells .records) t a
@@ -227,16 +224,16 @@ module _ (P : ℕ → Type 0) (none : P 0) (high : (n : ℕ) → 16 < n → n �
   refusal-all s t (Reset a) d = owned-all (s .cells .records) t a
   refusal-all s t (Raw a n) d = or-all _ _ (owned-all (s .cells .records) t a) (node-all n)
   refusal-all s t (Swap b n) d = or-all _ _ (source-all b) (node-all n)
-  refusal-all s t (Retire n x) d = retire-all n (getD (s .cells .nodes) (atIn (address (cell.NodeState (narrow n))) Cells.inNodes) 0) (isIn (narrow n) (s .cells .sources)) (isAbove nodes (s .cells .sources)) d
+  refusal-all s t (Retire n x) d = retire-all n (getD (s .cells .state) (atIn (address (cell.NodeState (narrow n))) Cells.inState) 0) (anyIs (s .cells .sources) (narrow n) 0 sources) (anyAbove (s .cells .sources) nodes 1 0 0 sources) d
   refusal-all s t Eager d = none
   refusal-all s t Cleanup d = none
   refusal-all s t Shutdown d = busy-all (anyAbove (s .rows32) 0 row32 0 0 threads) (anyAbove (s .cells .records) 1 4 3 0 records)
 
-  refuse-all : (s : State) (t : ℕ) (o : Operation) → (isAbove nodes (s .cells .sources) ≡ true → P 29) → (2 < getD (s .cells .heads) 2 0 → P 29) → P (refuseOf (s .cells) (s .rows32) t o)
+  refuse-all : (s : State) (t : ℕ) (o : Operation) → (anyAbove (s .cells .sources) nodes 1 0 0 sources ≡ true → P 29) → (2 < getD (s .cells .heads) 2 0 → P 29) → P (refuseOf s t o)
   unfolding refuseOf
   refuse-all s t o d m =
       pick-case P (eqb (getD (s .cells .heads) 2 0) 1) _ _ (λ _. high 18 (omega arith) (omega arith)) (λ _. pick-case P (eqb (getD (s .cells .heads) 2 0) 2) _ _ (λ _. high 18 (omega arith) (omega arith))
-      (λ _. pick-case P (eqb (getD (s .rows32) (t * row32) 0) (code Pc.Idle)) _ _ (λ _. pick-case P (eqb (refusal (s .cells .records) (s .cells .sources) (s .cells .nodes) (s .rows32) t o) 0) _ _ (λ _. pick-case P (ltb 2 (getD (s .cells .heads) 2 0)) _ _ (λ q. m (ltb-true _ _ q)) (λ _. none)) (λ _. refusal-all s t o d)) (λ _. high 20 (omega arith) (omega arith))))
+      (λ _. pick-case P (eqb (getD (s .rows32) (t * row32) 0) (code Pc.Idle)) _ _ (λ _. pick-case P (eqb (refusal (s .cells .records) (s .cells .sources) (s .cells .state) (s .rows32) t o) 0) _ _ (λ _. pick-case P (ltb 2 (getD (s .cells .heads) 2 0)) _ _ (λ q. m (ltb-true _ _ q)) (λ _. none)) (λ _. refusal-all s t o d)) (λ _. high 20 (omega arith) (omega arith))))
 
 -- a refusal is a number from 16 on
 abbrev High : ℕ → Type 0
@@ -273,7 +270,7 @@ entry-eight g = every-start (λ (o : Operation). Eight (begins g o .row)) (searc
 
 module _ (g : Settings) (s : State) (z : Sized s) (t : ℕ) (ht : t < threads) (o : Operation) where
   abbrev n : ℕ
-  n = refusal (s .cells .records) (s .cells .sources) (s .cells .nodes) (s .rows32) t o
+  n = refusal (s .cells .records) (s .cells .sources) (s .cells .state) (s .rows32) t o
 
   abbrev mark : ℕ
   mark = getD (s .cells .heads) 2 0
@@ -325,16 +322,17 @@ start-begin g s t o =
     pick-case (Begin g s t o) (sizes s) _ _ (λ q. pick-case (Begin g s t o) (ltb t threads) _ _ (λ h. in-begin g s (sized-of s q) t (ltb-true t threads h) o) (λ _. stays 17 (omega arith) refl)) (λ _. stays 16 (omega arith) refl)
 
 -- ---- on whole tables no start answers 16 or 29
-all-low : (n : ℕ) (l : List ℕ) → ((k : ℕ) → getD l k 0 ≤ n) → isAbove n l ≡ false
-all-low n [] h = refl
-all-low n (x ∷ l) h = rw (le-ltb n x (h 0)) (all-low n l (λ k. h (suc k)))
+all-low : (l : List ℕ) (m w k i n : ℕ) → ((j : ℕ) → getD l j 0 ≤ m) → anyAbove l m w k i n ≡ false
+unfolding anyAbove
+all-low l m w k i zero h = refl
+all-low l m w k i (suc n) h = rw (le-ltb m (getD l (i * w + k) 0) (h (i * w + k))) (all-low l m w k (i + 1) n h)
 
 pub start-whole : (g : Settings) (s : State) → Sized s → (t : ℕ) (o : Operation) → viewOf s .heads .mark ≤ 2 → ((b : ℕ) → getD (viewOf s .sources) b 0 ≤ nodes) → Fine (startOf g s t o .answer .number)
 unfolding startOf startIn viewOf
 start-whole g s z t o m low =
     rw (sizes-of s z) (pick-all At (ltb t threads) _ _
-    (pick-all At (eqb (refuseOf (s .cells) (s .rows32) t o) 0) _ _ (pick-all At (ofNull (begins g o)) _ _ (omega arith) (omega arith))
-    (refuse-all Fine (omega arith) (λ n h ne. omega arith) s t o (λ q. absurd (true≢false (sym q ∙ all-low nodes (s .cells .sources) (λ k. at k (decLt k sources))))) (λ q. absurd (omega arith))))
+    (pick-all At (eqb (refuseOf s t o) 0) _ _ (pick-all At (ofNull (begins g o)) _ _ (omega arith) (omega arith))
+    (refuse-all Fine (omega arith) (λ n h ne. omega arith) s t o (λ q. absurd (true≢false (sym q ∙ all-low (s .cells .sources) nodes 1 0 0 sources (λ k. at k (decLt k sources))))) (λ q. absurd (omega arith))))
     (omega arith))
   where
     At : Out → Type 0

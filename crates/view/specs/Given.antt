@@ -48,10 +48,11 @@ sized-of s e =
     let r = is-both _ _ (c .1) in
     let b = is-both _ _ (r .1) in
     let n = is-both _ _ (b .1) in
-    let x = is-both _ _ (n .1) in
+    let m = is-both _ _ (n .1) in
+    let x = is-both _ _ (m .1) in
     let y = is-both _ _ (x .1) in
     record {
-      cells = record { heads = eqb-true _ _ (h .0); counters = eqb-true _ _ (c .0); records = eqb-true _ _ (r .0); sources = eqb-true _ _ (b .0); nodes = eqb-true _ _ (n .0) };
+      cells = record { heads = eqb-true _ _ (h .0); counters = eqb-true _ _ (c .0); records = eqb-true _ _ (r .0); sources = eqb-true _ _ (b .0); next = eqb-true _ _ (n .0); state = eqb-true _ _ (m .0) };
       rows32 = eqb-true _ _ (x .0);
       rows64 = eqb-true _ _ (y .0);
       guards = eqb-true _ _ (y .1);
@@ -59,19 +60,19 @@ sized-of s e =
 
 pub sizes-of : (s : State) → Sized s → sizes s ≡ true
 sizes-of s z =
-    rw (eq-eqb _ _ (z .cells .heads), eq-eqb _ _ (z .cells .counters), eq-eqb _ _ (z .cells .records), eq-eqb _ _ (z .cells .sources), eq-eqb _ _ (z .cells .nodes), eq-eqb _ _ (z .rows32), eq-eqb _ _ (z .rows64))
+    rw (eq-eqb _ _ (z .cells .heads), eq-eqb _ _ (z .cells .counters), eq-eqb _ _ (z .cells .records), eq-eqb _ _ (z .cells .sources), eq-eqb _ _ (z .cells .next), eq-eqb _ _ (z .cells .state), eq-eqb _ _ (z .rows32), eq-eqb _ _ (z .rows64))
     (eq-eqb _ _ (z .guards))
 
 pub sized-written : (s : Shared) (c : Cell) (x : ℕ) → SizedCells s → SizedCells (written s c x)
 unfolding written
-sized-written s c x z = record { heads = rw length-set (z .heads); counters = rw length-set (z .counters); records = rw length-set (z .records); sources = rw length-set (z .sources); nodes = rw length-set (z .nodes) }
+sized-written s c x z = record { heads = rw length-set (z .heads); counters = rw length-set (z .counters); records = rw length-set (z .records); sources = rw length-set (z .sources); next = rw length-set (z .next); state = rw length-set (z .state) }
 
 sized-closed : (s : Shared) (b : Bool) → SizedCells s → SizedCells (closed s b)
 sized-closed s false z = z
-sized-closed s true z = record { heads = rw (length-set, length-set) (z .heads); counters = z .counters; records = rw length-replicate (z .records); sources = z .sources; nodes = z .nodes }
+sized-closed s true z = record { heads = rw (length-set, length-set) (z .heads); counters = z .counters; records = rw length-replicate (z .records); sources = z .sources; next = z .next; state = z .state }
 
 sized-ticked : (s : Shared) → SizedCells s → SizedCells (ticked s)
-sized-ticked s z = record { heads = z .heads; counters = rw length-set (z .counters); records = z .records; sources = z .sources; nodes = z .nodes }
+sized-ticked s z = record { heads = z .heads; counters = rw length-set (z .counters); records = z .records; sources = z .sources; next = z .next; state = z .state }
 
 -- ---- the access of a step
 -- a store's cell is at the same place

@@ -30,8 +30,8 @@ long s = record {
   recordNext = field-length 4 records (s .cells .records) 2;
   holder = field-length 4 records (s .cells .records) 3;
   sources = field-length 1 sources (s .cells .sources) 0;
-  next = field-length 2 nodes (s .cells .nodes) 0;
-  state = field-length 2 nodes (s .cells .nodes) 1;
+  next = field-length 1 nodes (s .cells .next) 0;
+  state = field-length 1 nodes (s .cells .state) 0;
   rows = tab-length threads (λ t. rowAt (s .rows32) (s .rows64) t);
   guards = tab-length threads (λ t. guardsOf (s .guards) t);
 }

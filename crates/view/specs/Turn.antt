@@ -181,7 +181,7 @@ module _ (g : Settings) (s : State) (z : Sized s) (t : ℕ) (ht : t < threads) (
   l = address (followOf R u)
 
   abbrev i : Seen
-  i = readBy (s .cells) (s .guards) t flag clock R c l u
+  i = readBy s t flag clock R c l u
 
   abbrev e : Effect
   e = does g p R i

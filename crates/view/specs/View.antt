@@ -68,11 +68,11 @@ recordsIn l = record { hazard = field 4 0 records l; availableNext = field 4 1 r
 abbrev pub sourcesIn : List ℕ → List ℕ
 sourcesIn l = field 1 0 sources l
 
-abbrev pub nodesIn : List ℕ → Nodes
-nodesIn l = record { next = field 2 0 nodes l; state = field 2 1 nodes l }
+abbrev pub nodesIn : List ℕ → List ℕ → Nodes
+nodesIn n m = record { next = field 1 0 nodes n; state = field 1 0 nodes m }
 
 abbrev pub view : Shared → List Row → List (List ℕ) → View
-view s r g = record { heads = headsIn (s .heads); counters = countersIn (s .counters); records = recordsIn (s .records); sources = sourcesIn (s .sources); nodes = nodesIn (s .nodes); rows = r; guards = g }
+view s r g = record { heads = headsIn (s .heads); counters = countersIn (s .counters); records = recordsIn (s .records); sources = sourcesIn (s .sources); nodes = nodesIn (s .next) (s .state); rows = r; guards = g }
 
 abbrev pub rowsIn : List ℕ → List ℕ → List Row
 rowsIn l m = tab threads (λ t. rowAt l m t)

@@ -11,7 +11,7 @@ use native.Mathlib.Omega.{arith}
 use Rattle.base.specs.Pick.{pick, pick-yes, pick-no}
 use Rattle.rules.specs.Sizes.{records, sources, nodes}
 use Rattle.rules.specs.Cells
-use Rattle.rules.specs.Cells.{address, cellAt, nothing, wordOf, inRecords, inSources, inNodes}
+use Rattle.rules.specs.Cells.{address, cellAt, nothing, wordOf, inRecords, inSources, inNext, inState}
 use Rattle.rules.specs.declared.Class.{Class}
 use Rattle.rules.specs.declared.Class.the-variants.{Anything, ARecord, ANode, AnAvailable, AState, AHolder}
 use Rattle.rules.specs.Step.{Shared, shared, fetched, written}
@@ -29,7 +29,8 @@ pub record SizedCells (s : Shared) : Type 0 where
   pub counters : length (s .counters) ≡ 5
   pub records : length (s .records) ≡ records * 4
   pub sources : length (s .sources) ≡ sources * 1
-  pub nodes : length (s .nodes) ≡ nodes * 2
+  pub next : length (s .next) ≡ nodes * 1
+  pub state : length (s .state) ≡ nodes * 1
 
 -- ---- a name that is a cell's has a plain address
 abbrev pub plain : Named → Cell
@@ -47,8 +48,8 @@ plain (cell.AvailableNext r) = cellAt inRecords ((r - 1) * 4 + 1) ARecord
 plain (cell.RecordNext r) = cellAt inRecords ((r - 1) * 4 + 2) ARecord
 plain (cell.Holder r) = cellAt inRecords ((r - 1) * 4 + 3) AHolder
 plain (cell.Source b) = cellAt inSources ((b - 1) * 1 + 0) ANode
-plain (cell.NodeNext n) = cellAt inNodes ((n - 1) * 2 + 0) ANode
-plain (cell.NodeState n) = cellAt inNodes ((n - 1) * 2 + 1) AState
+plain (cell.NodeNext n) = cellAt inNext ((n - 1) * 1 + 0) ANode
+plain (cell.NodeState n) = cellAt inState ((n - 1) * 1 + 0) AState
 
 word-in : (table n w id k : ℕ) (class : Class) → IsId n id → wordOf table n w id k class ≡ cellAt table ((id - 1) * w + k) class
 word-in table n w id k class h = pick-no _ _ _ (ne-eqb id 0 (omega arith)) ∙ pick-no _ _ _ (le-ltb n id (h .1))
@@ -69,8 +70,8 @@ address-in (cell.AvailableNext r) h = word-in inRecords records 4 r 1 ARecord h
 address-in (cell.RecordNext r) h = word-in inRecords records 4 r 2 ARecord h
 address-in (cell.Holder r) h = word-in inRecords records 4 r 3 AHolder h
 address-in (cell.Source b) h = word-in inSources sources 1 b 0 ANode h
-address-in (cell.NodeNext n) h = word-in inNodes nodes 2 n 0 ANode h
-address-in (cell.NodeState n) h = word-in inNodes nodes 2 n 1 AState h
+address-in (cell.NodeNext n) h = word-in inNext nodes 1 n 0 ANode h
+address-in (cell.NodeState n) h = word-in inState nodes 1 n 0 AState h
 
 -- ---- reading
 module _ (s : Shared) (r : List Row) (q : List (List ℕ)) where
@@ -90,8 +91,8 @@ module _ (s : Shared) (r : List Row) (q : List (List ℕ)) where
   fetched-plain (cell.RecordNext r) h = sym (field-get 4 records (s .records) 2 r h)
   fetched-plain (cell.Holder r) h = sym (field-get 4 records (s .records) 3 r h)
   fetched-plain (cell.Source b) h = sym (field-get 1 sources (s .sources) 0 b h)
-  fetched-plain (cell.NodeNext n) h = sym (field-get 2 nodes (s .nodes) 0 n h)
-  fetched-plain (cell.NodeState n) h = sym (field-get 2 nodes (s .nodes) 1 n h)
+  fetched-plain (cell.NodeNext n) h = sym (field-get 1 nodes (s .next) 0 n h)
+  fetched-plain (cell.NodeState n) h = sym (field-get 1 nodes (s .state) 0 n h)
 
   pub fetched-view : (c : Named) → InTable c → fetched s (address c) ≡ get c (view s r q)
   fetched-view c h = ap (fetched s) (address-in c h) ∙ fetched-plain c h
@@ -128,8 +129,8 @@ abbrev pub Fits : Named → ℕ → Type 0
 Fits c x = FitsIn (narrow c) x
 
 module _ (s : Shared) (z : SizedCells s) (rs : List Row) (q : List (List ℕ)) (x : ℕ) where
-  abbrev seen : List ℕ → List ℕ → List ℕ → List ℕ → List ℕ → View
-  seen h c r b n = view (shared h c r b n) rs q
+  abbrev seen : List ℕ → List ℕ → List ℕ → List ℕ → List ℕ → List ℕ → View
+  seen h c r b n m = view (shared h c r b n m) rs q
 
   abbrev y : ℕ
   y = x % 2 ^ 32
@@ -146,24 +147,30 @@ module _ (s : Shared) (z : SizedCells s) (rs : List Row) (q : List (List ℕ)) (
   b0 : set (s .sources) far y ≡ s .sources
   b0 = set-out (s .sources) far y (omega (arith, z .sources))
 
-  n0 : set (s .nodes) far y ≡ s .nodes
-  n0 = set-out (s .nodes) far y (omega (arith, z .nodes))
+  n0 : set (s .next) far y ≡ s .next
+  n0 = set-out (s .next) far y (omega (arith, z .next))
+
+  m0 : set (s .state) far y ≡ s .state
+  m0 = set-out (s .state) far y (omega (arith, z .state))
 
   -- only one table changes
-  in-heads : (k : ℕ) → seen (set (s .heads) k y) (set (s .counters) far x) (set (s .records) far y) (set (s .sources) far y) (set (s .nodes) far y) ≡ seen (set (s .heads) k y) (s .counters) (s .records) (s .sources) (s .nodes)
-  in-heads k = λ i. seen (set (s .heads) k y) (c0 i) (r0 i) (b0 i) (n0 i)
+  in-heads : (k : ℕ) → seen (set (s .heads) k y) (set (s .counters) far x) (set (s .records) far y) (set (s .sources) far y) (set (s .next) far y) (set (s .state) far y) ≡ seen (set (s .heads) k y) (s .counters) (s .records) (s .sources) (s .next) (s .state)
+  in-heads k = λ i. seen (set (s .heads) k y) (c0 i) (r0 i) (b0 i) (n0 i) (m0 i)
 
-  in-counters : (k : ℕ) → seen (set (s .heads) far y) (set (s .counters) k x) (set (s .records) far y) (set (s .sources) far y) (set (s .nodes) far y) ≡ seen (s .heads) (set (s .counters) k x) (s .records) (s .sources) (s .nodes)
-  in-counters k = λ i. seen (h0 i) (set (s .counters) k x) (r0 i) (b0 i) (n0 i)
+  in-counters : (k : ℕ) → seen (set (s .heads) far y) (set (s .counters) k x) (set (s .records) far y) (set (s .sources) far y) (set (s .next) far y) (set (s .state) far y) ≡ seen (s .heads) (set (s .counters) k x) (s .records) (s .sources) (s .next) (s .state)
+  in-counters k = λ i. seen (h0 i) (set (s .counters) k x) (r0 i) (b0 i) (n0 i) (m0 i)
 
-  in-records : (k : ℕ) → seen (set (s .heads) far y) (set (s .counters) far x) (set (s .records) k y) (set (s .sources) far y) (set (s .nodes) far y) ≡ seen (s .heads) (s .counters) (set (s .records) k y) (s .sources) (s .nodes)
-  in-records k = λ i. seen (h0 i) (c0 i) (set (s .records) k y) (b0 i) (n0 i)
+  in-records : (k : ℕ) → seen (set (s .heads) far y) (set (s .counters) far x) (set (s .records) k y) (set (s .sources) far y) (set (s .next) far y) (set (s .state) far y) ≡ seen (s .heads) (s .counters) (set (s .records) k y) (s .sources) (s .next) (s .state)
+  in-records k = λ i. seen (h0 i) (c0 i) (set (s .records) k y) (b0 i) (n0 i) (m0 i)
 
-  in-sources : (k : ℕ) → seen (set (s .heads) far y) (set (s .counters) far x) (set (s .records) far y) (set (s .sources) k y) (set (s .nodes) far y) ≡ seen (s .heads) (s .counters) (s .records) (set (s .sources) k y) (s .nodes)
-  in-sources k = λ i. seen (h0 i) (c0 i) (r0 i) (set (s .sources) k y) (n0 i)
+  in-sources : (k : ℕ) → seen (set (s .heads) far y) (set (s .counters) far x) (set (s .records) far y) (set (s .sources) k y) (set (s .next) far y) (set (s .state) far y) ≡ seen (s .heads) (s .counters) (s .records) (set (s .sources) k y) (s .next) (s .state)
+  in-sources k = λ i. seen (h0 i) (c0 i) (r0 i) (set (s .sources) k y) (n0 i) (m0 i)
 
-  in-nodes : (k : ℕ) → seen (set (s .heads) far y) (set (s .counters) far x) (set (s .records) far y) (set (s .sources) far y) (set (s .nodes) k y) ≡ seen (s .heads) (s .counters) (s .records) (s .sources) (set (s .nodes) k y)
-  in-nodes k = λ i. seen (h0 i) (c0 i) (r0 i) (b0 i) (set (s .nodes) k y)
+  in-next : (k : ℕ) → seen (set (s .heads) far y) (set (s .counters) far x) (set (s .records) far y) (set (s .sources) far y) (set (s .next) k y) (set (s .state) far y) ≡ seen (s .heads) (s .counters) (s .records) (s .sources) (set (s .next) k y) (s .state)
+  in-next k = λ i. seen (h0 i) (c0 i) (r0 i) (b0 i) (set (s .next) k y) (m0 i)
+
+  in-state : (k : ℕ) → seen (set (s .heads) far y) (set (s .counters) far x) (set (s .records) far y) (set (s .sources) far y) (set (s .next) far y) (set (s .state) k y) ≡ seen (s .heads) (s .counters) (s .records) (s .sources) (s .next) (set (s .state) k y)
+  in-state k = λ i. seen (h0 i) (c0 i) (r0 i) (b0 i) (n0 i) (set (s .state) k y)
 
   shard-low : (k : ℕ) → k < 3 → tab shardHeads (λ j. getD (set (s .heads) k y) (j + 3) 0) ≡ tab shardHeads (λ j. getD (s .heads) (j + 3) 0)
   shard-low k h = tab-ext shardHeads (λ j. getD (set (s .heads) k y) (j + 3) 0) (λ j. getD (s .heads) (j + 3) 0) (λ j _. getD-set-other (s .heads) k (j + 3) y 0 (omega arith))
@@ -202,7 +209,7 @@ module _ (s : Shared) (z : SizedCells s) (rs : List Row) (q : List (List ℕ)) (
 
   written-plain : (c : Named) → InTable c → view (written s (plain c) x) rs q ≡ put c (cut c) (view s rs q)
   unfolding written
-  written-plain cell.Nothing h = λ i. seen (h0 i) (c0 i) (r0 i) (b0 i) (n0 i)
+  written-plain cell.Nothing h = λ i. seen (h0 i) (c0 i) (r0 i) (b0 i) (n0 i) (m0 i)
   written-plain cell.RecordHead h = in-heads 0 ∙ λ i. withHeads (record { recordHead = head-same 0 (omega arith) i; headAvailable = head-other (0) 1 (omega arith) i; mark = head-other (0) 2 (omega arith) i; shards = shard-low 0 (omega arith) i }) (view s rs q)
   written-plain cell.HeadAvailable h = in-heads 1 ∙ λ i. withHeads (record { recordHead = head-other (1) 0 (omega arith) i; headAvailable = head-same 1 (omega arith) i; mark = head-other (1) 2 (omega arith) i; shards = shard-low 1 (omega arith) i }) (view s rs q)
   written-plain cell.Shutdown h = in-heads 2 ∙ λ i. withHeads (record { recordHead = head-other (2) 0 (omega arith) i; headAvailable = head-other (2) 1 (omega arith) i; mark = head-same 2 (omega arith) i; shards = shard-low 2 (omega arith) i }) (view s rs q)
@@ -216,8 +223,8 @@ module _ (s : Shared) (z : SizedCells s) (rs : List Row) (q : List (List ℕ)) (
   written-plain (cell.RecordNext r) h = in-records ((r - 1) * 4 + 2) ∙ λ i. withRecords (record { hazard = rec-other 0 2 r (omega arith) (omega arith) (omega arith) i; availableNext = rec-other 1 2 r (omega arith) (omega arith) (omega arith) i; next = rec-same 2 r (omega arith) h i; holder = rec-other 3 2 r (omega arith) (omega arith) (omega arith) i }) (view s rs q)
   written-plain (cell.Holder r) h = in-records ((r - 1) * 4 + 3) ∙ λ i. withRecords (record { hazard = rec-other 0 3 r (omega arith) (omega arith) (omega arith) i; availableNext = rec-other 1 3 r (omega arith) (omega arith) (omega arith) i; next = rec-other 2 3 r (omega arith) (omega arith) (omega arith) i; holder = rec-same 3 r (omega arith) h i }) (view s rs q)
   written-plain (cell.Source b) h = in-sources ((b - 1) * 1 + 0) ∙ λ i. withSources (field-same 1 sources (s .sources) 0 b y (omega arith) (z .sources) h i) (view s rs q)
-  written-plain (cell.NodeNext n) h = in-nodes ((n - 1) * 2 + 0) ∙ λ i. withNodes (record { next = field-same 2 nodes (s .nodes) 0 n y (omega arith) (z .nodes) h i; state = field-other 2 nodes (s .nodes) 1 0 (n - 1) y (omega arith) (omega arith) (omega arith) i }) (view s rs q)
-  written-plain (cell.NodeState n) h = in-nodes ((n - 1) * 2 + 1) ∙ λ i. withNodes (record { next = field-other 2 nodes (s .nodes) 0 1 (n - 1) y (omega arith) (omega arith) (omega arith) i; state = field-same 2 nodes (s .nodes) 1 n y (omega arith) (z .nodes) h i }) (view s rs q)
+  written-plain (cell.NodeNext n) h = in-next ((n - 1) * 1 + 0) ∙ λ i. withNodes (record { next = field-same 1 nodes (s .next) 0 n y (omega arith) (z .next) h i; state = field 1 0 nodes (s .state) }) (view s rs q)
+  written-plain (cell.NodeState n) h = in-state ((n - 1) * 1 + 0) ∙ λ i. withNodes (record { next = field 1 0 nodes (s .next); state = field-same 1 nodes (s .state) 0 n y (omega arith) (z .state) h i }) (view s rs q)
 
   pub written-view : (c : Named) → InTable c → Fits c x → view (written s (address c) x) rs q ≡ put c x (view s rs q)
   written-view c h f = ap (λ (k : Cell). view (written s k x) rs q) (address-in c h) ∙ written-plain c h ∙ ap (λ (k : ℕ). put c k (view s rs q)) (cut-fits c f)
@@ -225,4 +232,4 @@ module _ (s : Shared) (z : SizedCells s) (rs : List Row) (q : List (List ℕ)) (
 -- what is no cell is written nowhere
 pub written-none : (s : Shared) → SizedCells s → (x : ℕ) → written s nothing x ≡ s
 unfolding written
-written-none s z x = λ i. shared (h0 s z [] [] x i) (c0 s z [] [] x i) (r0 s z [] [] x i) (b0 s z [] [] x i) (n0 s z [] [] x i)
+written-none s z x = λ i. shared (h0 s z [] [] x i) (c0 s z [] [] x i) (r0 s z [] [] x i) (b0 s z [] [] x i) (n0 s z [] [] x i) (m0 s z [] [] x i)
