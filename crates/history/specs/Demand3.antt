@@ -121,8 +121,9 @@ unfoldable pub follow : (ℕ → ℕ) → ℕ → ℕ → ℕ → List ℕ
 follow next end zero h = []
 follow next end (suc k) h = pick (eqb h 0) [] (h ∷ pick (eqb h end) [] (follow next end k (next h)))
 
+-- one node more than there are, so that a list which runs back into itself is seen
 abbrev pub listAt : State → ℕ × ℕ → List ℕ
-listAt s p = follow (λ n. holds s (cell.NodeNext n)) (p .1) nodes (p .0)
+listAt s p = follow (λ n. holds s (cell.NodeNext n)) (p .1) (suc nodes) (p .0)
 
 -- ---- the statements, for 1, 2, 4 or 8 shards, any floor and any clock rule
 abbrev pub Choice : Settings → Type 0

@@ -143,12 +143,12 @@ module _ (g : Settings) (C : Chosen g) (s : State) (h : List Event) (run : Run g
   tight : (p : ℕ) → p < length (hv sh rows) → loose p ≡ false → listAt s (getD (hv sh rows) p 0, 0) ≡ getD ls p []
   tight p hp e =
       let c : Seg next (getD (hv sh rows) p 0) (getD ls p []) 0 = subst (λ (b : Bool). At b next (getD (hv sh rows) p 0) (getD ls p [])) e (H .heap .at p hp) in
-      follow-seg next to same nodes (getD (hv sh rows) p 0) (getD ls p []) (seg-length next nodes (getD (hv sh rows) p 0) (getD ls p []) 0 (long s .next) (nd p hp) c) c
+      follow-seg next to same (suc nodes) (getD (hv sh rows) p 0) (getD ls p []) (let b = seg-length next nodes (getD (hv sh rows) p 0) (getD ls p []) 0 (long s .next) (nd p hp) c in omega arith) c
 
   open-ended : (p e : ℕ) → p < length (hv sh rows) → loose p ≡ true → (getD (hv sh rows) p 0 ≢ 0 → last (getD ls p []) ≡ e) → listAt s (getD (hv sh rows) p 0, e) ≡ getD ls p []
   open-ended p e hp l q =
       let c : Loose next (getD (hv sh rows) p 0) (getD ls p []) = subst (λ (b : Bool). At b next (getD (hv sh rows) p 0) (getD ls p [])) l (H .heap .at p hp) in
-      follow-loose next to same nodes (getD (hv sh rows) p 0) (getD ls p []) e (loose-length next nodes (getD (hv sh rows) p 0) (getD ls p []) (long s .next) (nd p hp) c) (nd p hp) c q
+      follow-loose next to same (suc nodes) (getD (hv sh rows) p 0) (getD ls p []) e (let b = loose-length next nodes (getD (hv sh rows) p 0) (getD ls p []) (long s .next) (nd p hp) c in omega arith) (nd p hp) c q
 
   module _ (t : ℕ) (ht : t < length rows) where
     abbrev r : Row
