@@ -7,7 +7,7 @@ use Prim.Native.Nat.{ℕ, zero, suc, _+_, _*_, _-_, _≤_, _<_, min}
 use native.Mathlib.Decide.{ℕ-discrete, decLe}
 use native.Mathlib.Omega.{arith}
 use lib.Dec.{eqb}
-use lib.ListN.{length, getD, set, length-set, length-replicate, List·getD-eq-default}
+use lib.ListN.{length, getD, set, replicate, length-set, length-replicate, List·getD-eq-default}
 use lib.Seq.{getD-set-same, getD-set-other, set-getD}
 use borrow.Author.Tests.{eqb-true, eqb-false}
 use Rattle.base.specs.Pick.{pick}
@@ -32,6 +32,7 @@ use Rattle.lists.specs.Occ.{occ, eq01, eq01-same, eq01-cases, sum, sum-at}
 use Rattle.lists.specs.Chain.{Seg, seg-head, seg-unique, seg-frame, seg-push}
 use Rattle.lists.specs.Heap
 use Rattle.lists.specs.Each.{each-set}
+use Rattle.lists.specs.Tab.{zeros}
 use Rattle.view.specs.Field.{IsId, cleared}
 use Rattle.view.specs.Ranges.{limit}
 use Rattle.view.specs.View.{View, InTable, named, get, applies, enters}
@@ -50,17 +51,18 @@ use Rattle.shutdown.specs.Zone.{side, Shut, Open, ShutRow, ZoneIn, all-shut-row
 use Rattle.claims.specs.Claim
 use Rattle.claims.specs.Claim.{Claim, Stolen, Guarded, Scan, scan, Part, SafeOf, Safe, ValOf, Val, Keeper, Held, ClaimsAt, ClaimsIn, safe-less, stolen-other, keeper-set}
 
--- what a step does to the claims: a store to a hazard ends its record's, and V2's answer makes one
+-- what a step does to the claims: a store to a hazard ends its record's, V2's answer makes one, and S3 ends them all
 pub data Marking : Type 0 where
-  keeps drops makes : Marking
+  keeps drops makes clears : Marking
 
 abbrev pub marking : Pc → Marking
-marking = classed keeps ((Pc.D1, drops) ∷ (Pc.V1, drops) ∷ (Pc.V2, makes) ∷ (Pc.V3, drops) ∷ (Pc.Reset, drops) ∷ (Pc.Raw, drops) ∷ [])
+marking = classed keeps ((Pc.D1, drops) ∷ (Pc.V1, drops) ∷ (Pc.V2, makes) ∷ (Pc.V3, drops) ∷ (Pc.Reset, drops) ∷ (Pc.Raw, drops) ∷ (Pc.S3, clears) ∷ [])
 
 abbrev pub marksOf : Marking → Row → Effect → List ℕ → List ℕ
 marksOf keeps r e cl = cl
 marksOf drops r e cl = set cl (r .rec) 0
 marksOf makes r e cl = pick (eqb (e .number) 2) (set cl (r .rec) (e .value)) cl
+marksOf clears r e cl = replicate (suc records) 0
 
 abbrev pub marks : Pc → Row → Effect → List ℕ → List ℕ
 marks p r e cl = marksOf (marking p) r e cl
@@ -652,15 +654,18 @@ module _ (g : Settings) (v : View) (ls : List (List ℕ)) (H : HeapIn g v ls) (R
   kS3 i l = thus λ N. record {
     sources = I .sources;
     states = I .states;
-    claims = λ c n k. absurd (shut-none Pc.S3 (l .place) (λ q. q) c n k);
+    claims = λ c n k. absurd (none c n k);
     vals = λ u hu. shut-val (pcOf (getD (set rows t idle) u idle .place)) (cleared hz) (getD (set rows t idle) u idle .rec) (getD (set rows t idle) u idle .node) (shut u hu);
-    safe = λ u hu. shut-safe (pcOf (getD (set rows t idle) u idle .place)) (cleared next) 0 (set gs t (guarded (getD gs t []) guards.Keep)) cl (N .lists) u (getD (set rows t idle) u idle .rec) (shut u hu);
-    over = λ m c n k. shut-none Pc.S3 (l .place) (λ q. q) c n k;
-    long = I .long ∙ sym (length-replicate (length hz) 0);
+    safe = λ u hu. shut-safe (pcOf (getD (set rows t idle) u idle .place)) (cleared next) 0 (set gs t (guarded (getD gs t []) guards.Keep)) (replicate (suc records) 0) (N .lists) u (getD (set rows t idle) u idle .rec) (shut u hu);
+    over = λ m c n k. none c n k;
+    long = length-replicate {A = ℕ} (suc records) 0 ∙ sym (lv .hazard) ∙ sym (length-replicate (length hz) 0);
   }
     where
       shut : (u : ℕ) → u < length (set rows t idle) → ShutRow (getD (set rows t idle) u idle)
       shut = each-set idle (λ u x. ShutRow x) (λ u x. ShutRow x) rows t idle ht (λ u hu ne q. q) tt (all-shut-rows g v Z t ht Pc.S3 (l .place) (λ q. q) .1)
+
+      none : (c n : ℕ) → Claim (replicate (suc records) 0) c n → ⊥
+      none c n k = k .some (sym (k .is) ∙ zeros (suc records) c)
 
   -- ---- every place
   kA6 : (i : Seen) → Look g v t Pc.A6 r i → At (λ (p : Pc) (e : Effect). K p i e) Pc.A6 (does g Pc.A6 r i)

@@ -1,9 +1,11 @@
--- Demand 3 in whole: what a run is, what its history says, where a node may wait, the four statements and that no cell is damaged. Proved.antt proves them.
--- Beside the rules this needs four words of lists: `tab n f` is f 0 to f (n - 1), `cat` joins lists, `occ n l` counts n in l, `sum f l` adds f over l.
+-- Demand 3 in whole: what a run is, what its history says, where a node may wait, and the statements. The proofs are
+-- in Proved.antt.
+-- Beside the rules this needs four words of lists: `tab n f` is f 0 to f (n - 1), `cat` joins lists, `occ n l` counts n
+-- in l, `sum f l` adds f over l.
 use Prim.Native.Nat.{ℕ, zero, suc, _+_, _*_, _^_, _≤_, _<_, max}
 use mathlib.Core.Path.{_≡_}
 use mathlib.Core.Logic.{_≢_}
-use mathlib.Core.Bool.{Bool, true, false}
+use mathlib.Core.Bool.{Bool}
 use mathlib.Core.List.{List, [], _∷_, _++_, map}
 use lib.ListN.{getD, set, replicate}
 use lib.Dec.{eqb, ltb, leb}
@@ -17,7 +19,8 @@ use Rattle.rules.specs.Places.{accesses}
 use Rattle.rules.specs.Step.{State, Out, shared, state, fetched, stepOf}
 use Rattle.rules.specs.Start.{startOf}
 use Rattle.rules.specs.declared.Operation.{Operation}
-use Rattle.rules.specs.declared.Operation.the-variants.{Acquire, Release, Protect, Try, TryProtect, Reset, Raw, Swap, Retire, Eager, Cleanup, Shutdown}
+use Rattle.rules.specs.declared.Operation.the-variants.{Acquire, Release, Protect, Try, TryProtect, Reset, Raw, Swap}
+use Rattle.rules.specs.declared.Operation.the-variants.{Retire, Eager, Cleanup, Shutdown}
 use Rattle.rules.specs.declared.Answer.{Answer}
 use Rattle.rules.specs.declared.Row.{Row}
 use Rattle.rules.specs.declared.Named.{Named}
@@ -30,7 +33,10 @@ use Rattle.lists.specs.Tab.{tab}
 
 -- ---- a fresh domain: every cell, row and word is 0
 unfoldable pub fresh : State
-fresh = state (shared (replicate 11 0) (replicate 5 0) (replicate (4 * records) 0) (replicate sources 0) (replicate (2 * nodes) 0)) (replicate (row32 * threads) 0) (replicate (row64 * threads) 0) (replicate (words * threads) 0)
+fresh =
+    state
+    (shared (replicate 11 0) (replicate 5 0) (replicate (4 * records) 0) (replicate sources 0) (replicate (2 * nodes) 0))
+    (replicate (row32 * threads) 0) (replicate (row64 * threads) 0) (replicate (words * threads) 0)
 
 abbrev pub row : State → ℕ → Row
 row s t = rowAt (s .rows32) (s .rows64) t
@@ -48,34 +54,71 @@ act g s (start t o) = startOf g s t o
 act g s (step t flag clock) = stepOf g s t flag clock
 
 -- ---- what a move is to somebody who watches hazards and nodes
--- record c's hazard was stored to; c's protection of node n was validated; node n's retirement was accepted; node n was reclaimed
+-- thread t stored to record c's hazard; every hazard was cleared; thread t's protection of node n was validated;
+-- node n's retirement was accepted; node n was reclaimed
 pub data Event : Type 0 where
   quiet : Event
-  stored : ℕ → Event
+  stored : ℕ → ℕ → Event
+  cleared : Event
   validated : ℕ → ℕ → Event
   retired : ℕ → Event
   reclaimed : ℕ → Event
 
-abbrev pub storesHazard : Access → Bool
-storesHazard = elim [ by.Load c ↦ false | by.Store c ↦ false | by.HazardStore c ↦ true | by.Update c ↦ false | by.Private c ↦ false ]
+-- thread t's step stores to the cell: a record's hazard, or the mark, which shutdown's last step stores as it clears the
+-- records
+abbrev pub storedIn : ℕ → Named → Event
+storedIn t cell.Nothing = quiet
+storedIn t cell.RecordHead = quiet
+storedIn t cell.HeadAvailable = quiet
+storedIn t (cell.ShardHead k) = quiet
+storedIn t cell.Shutdown = cleared
+storedIn t cell.RecordCount = quiet
+storedIn t cell.Count = quiet
+storedIn t cell.DueTime = quiet
+storedIn t cell.BulkReclaims = quiet
+storedIn t (cell.Hazard c) = stored t c
+storedIn t (cell.AvailableNext c) = quiet
+storedIn t (cell.RecordNext c) = quiet
+storedIn t (cell.Holder c) = quiet
+storedIn t (cell.Source b) = quiet
+storedIn t (cell.NodeNext n) = quiet
+storedIn t (cell.NodeState n) = quiet
+
+abbrev pub storedBy : ℕ → Access → Event
+storedBy t (by.Load c) = quiet
+storedBy t (by.Store c) = storedIn t c
+storedBy t (by.HazardStore c) = storedIn t c
+storedBy t (by.Update c) = storedIn t c
+storedBy t (by.Private c) = storedIn t c
 
 -- V0 to V3 are the places of protect, try and try_protect
 abbrev pub protecting : Pc → Bool
 protecting p = both (leb (code Pc.V0) (code p)) (leb (code p) (code Pc.V3))
 
-abbrev pub eventAt : Pc → Row → Answer → Event
-eventAt p r a = pick (both (protecting p) (eqb (a .number) 2)) (validated (r .rec) (a .value)) (pick (storesHazard (accesses p r)) (stored (r .rec)) quiet)
-
 -- 4 is a reclaimed node; from 16 on nothing was accessed
-abbrev pub eventBy : Pc → Row → Answer → Event
-eventBy p r a = pick (eqb (a .number) 4) (reclaimed (a .value)) (pick (ltb 15 (a .number)) quiet (eventAt p r a))
+abbrev pub eventBy : ℕ → Pc → Row → Answer → Event
+eventBy t p r a =
+    pick (eqb (a .number) 4) (reclaimed (a .value))
+    (pick (ltb 15 (a .number)) quiet
+    (pick (both (protecting p) (eqb (a .number) 2)) (validated t (a .value)) (storedBy t (accesses p r))))
 
 abbrev pub eventOf : Answer → Operation → Event
-eventOf a = elim [ Acquire ↦ quiet | Release c ↦ quiet | Protect c b ↦ quiet | Try c b n ↦ quiet | TryProtect c b n ↦ quiet | Reset c ↦ quiet | Raw c n ↦ quiet | Swap b n ↦ quiet | Retire n x ↦ pick (eqb (a .number) 1) (retired n) quiet | Eager ↦ quiet | Cleanup ↦ quiet | Shutdown ↦ quiet ]
+eventOf a Acquire = quiet
+eventOf a (Release c) = quiet
+eventOf a (Protect c b) = quiet
+eventOf a (Try c b n) = quiet
+eventOf a (TryProtect c b n) = quiet
+eventOf a (Reset c) = quiet
+eventOf a (Raw c n) = quiet
+eventOf a (Swap b n) = quiet
+eventOf a (Retire n x) = pick (eqb (a .number) 1) (retired n) quiet
+eventOf a Eager = quiet
+eventOf a Cleanup = quiet
+eventOf a Shutdown = quiet
 
 abbrev pub event : Settings → State → Move → Event
 event g s (start t o) = eventOf (startOf g s t o .answer) o
-event g s (step t flag clock) = eventBy (pcOf (row s t .place)) (row s t) (stepOf g s t flag clock .answer)
+event g s (step t flag clock) = eventBy t (pcOf (row s t .place)) (row s t) (stepOf g s t flag clock .answer)
 
 -- ---- a run: any moves from the fresh domain; its history: their events, the last first
 pub data Run (g : Settings) : State → List Event → Type 0 where
@@ -83,23 +126,50 @@ pub data Run (g : Settings) : State → List Event → Type 0 where
   goes : {s : State} {h : List Event} → Run g s h → (m : Move) → Run g (act g s m .state) (event g s m ∷ h)
 
 -- ---- a claim: the node that record c last validated, 0 where its hazard was stored to since
-abbrev pub claimed : Event → List ℕ → List ℕ
-claimed quiet cl = cl
-claimed (stored c) cl = set cl c 0
-claimed (validated c n) cl = set cl c n
-claimed (retired n) cl = cl
-claimed (reclaimed n) cl = cl
+-- the record for which thread t validates is that whose hazard it stored to last
+abbrev pub aim : ℕ → List Event → ℕ
+aim t [] = 0
+aim t (quiet ∷ h) = aim t h
+aim t (stored u c ∷ h) = pick (eqb u t) c (aim t h)
+aim t (cleared ∷ h) = aim t h
+aim t (validated u n ∷ h) = aim t h
+aim t (retired n ∷ h) = aim t h
+aim t (reclaimed n ∷ h) = aim t h
 
 abbrev pub claims : List Event → List ℕ
 claims [] = replicate (suc records) 0
-claims (e ∷ h) = claimed e (claims h)
+claims (quiet ∷ h) = claims h
+claims (stored t c ∷ h) = set (claims h) c 0
+claims (cleared ∷ h) = replicate (suc records) 0
+claims (validated t n ∷ h) = set (claims h) (aim t h) n
+claims (retired n ∷ h) = claims h
+claims (reclaimed n ∷ h) = claims h
+
+-- ---- 1 where the event is a store to record c's hazard
+abbrev pub stores : ℕ → Event → ℕ
+stores c quiet = 0
+stores c (stored t d) = eq01 c d
+stores c cleared = 1
+stores c (validated t n) = 0
+stores c (retired n) = 0
+stores c (reclaimed n) = 0
 
 -- ---- how often node n's retirement was accepted, and how often n was reclaimed
 abbrev pub retires : ℕ → Event → ℕ
-retires n = elim [ quiet ↦ 0 | stored c ↦ 0 | validated c m ↦ 0 | retired m ↦ eq01 n m | reclaimed m ↦ 0 ]
+retires n quiet = 0
+retires n (stored t c) = 0
+retires n cleared = 0
+retires n (validated t m) = 0
+retires n (retired m) = eq01 n m
+retires n (reclaimed m) = 0
 
 abbrev pub reclaims : ℕ → Event → ℕ
-reclaims n = elim [ quiet ↦ 0 | stored c ↦ 0 | validated c m ↦ 0 | retired m ↦ 0 | reclaimed m ↦ eq01 n m ]
+reclaims n quiet = 0
+reclaims n (stored t c) = 0
+reclaims n cleared = 0
+reclaims n (validated t m) = 0
+reclaims n (retired m) = 0
+reclaims n (reclaimed m) = eq01 n m
 
 -- ---- waiting: 1 where node n waits; how many do
 abbrev pub waits : State → ℕ → ℕ
@@ -109,7 +179,8 @@ abbrev pub waiting : State → ℕ
 waiting s = sum (waits s) (tab nodes suc)
 
 -- ---- the places of waiting nodes: the head of a list, and the node after which it ends, 0 where it ends by itself.
--- A shard's list; in a thread's row what is left of its stolen lists, its reclaim list, its kept list, and a retire's lone node
+-- A shard's list; in a thread's row what is left of its stolen lists, its reclaim list, its kept list, and a retire's
+-- lone node
 abbrev pub inRow : Row → List (ℕ × ℕ)
 inRow r = map (λ h. (h, 0)) (r .stolen) ++ ((r .reclaimable, 0) ∷ (r .unreclaimed, r .tail) ∷ (r .lone, r .lone) ∷ [])
 
@@ -131,20 +202,36 @@ Choice g = (k : ℕ) × (k ≤ 3) × (g .shards ≡ 2 ^ k)
 
 -- 1. A step that reclaims a node finds no record whose claim is that node.
 abbrev pub Safe : Settings → Type 0
-Safe g = (s : State) (h : List Event) → Run g s h → (t : ℕ) (flag : Bool) (clock c : ℕ) → stepOf g s t flag clock .answer .number ≡ 4 → getD (claims h) c 0 ≢ stepOf g s t flag clock .answer .value
+Safe g =
+    (s : State) (h : List Event) → Run g s h → (t : ℕ) (flag : Bool) (clock c : ℕ)
+    → stepOf g s t flag clock .answer .number ≡ 4 → getD (claims h) c 0 ≢ stepOf g s t flag clock .answer .value
 
--- 2. Over all places together a waiting node stands once, and nothing else stands there.
+-- 2. A claimed node is what its record's hazard holds, and a hazard changes only in a move that is a store to it.
+abbrev pub Hazards : Settings → Type 0
+Hazards g =
+    (s : State) (h : List Event) → Run g s h → (c : ℕ)
+    → (getD (claims h) c 0 ≢ 0 → holds s (cell.Hazard c) ≡ getD (claims h) c 0)
+    × ((m : Move) → holds (act g s m .state) (cell.Hazard c) ≢ holds s (cell.Hazard c) → stores c (event g s m) ≡ 1)
+
+-- 3. Over all places together a waiting node stands once, and nothing else stands there.
 abbrev pub OnePlace : Settings → Type 0
-OnePlace g = (s : State) (h : List Event) → Run g s h → (n : ℕ) → sum (λ p. occ n (listAt s p)) (places s) ≡ waits s n
+OnePlace g =
+    (s : State) (h : List Event) → Run g s h → (n : ℕ) → sum (λ p. occ n (listAt s p)) (places s) ≡ waits s n
 
--- 3. A node was retired as often as it was reclaimed, and once more if it waits: at every moment, so that the two alternate.
+-- 4. A node was retired as often as it was reclaimed, and once more if it waits: at every moment, so that the two
+-- alternate.
 abbrev pub Once : Settings → Type 0
-Once g = (s : State) (h : List Event) → Run g s h → (n : ℕ) → sum (retires n) h ≡ sum (reclaims n) h + waits s n
+Once g =
+    (s : State) (h : List Event) → Run g s h → (n : ℕ) → sum (retires n) h ≡ sum (reclaims n) h + waits s n
 
--- 4. When no thread is inside an operation, at most max(floor, 2 x records) nodes wait.
+-- 5. When no thread is inside an operation, at most max(floor, 2 x records) nodes wait.
 abbrev pub Bound : Settings → Type 0
-Bound g = (s : State) (h : List Event) → Run g s h → ((t : ℕ) → t < threads → row s t .place ≡ 0) → waiting s ≤ max (g .floor) (2 * holds s cell.RecordCount)
+Bound g =
+    (s : State) (h : List Event) → Run g s h → ((t : ℕ) → t < threads → row s t .place ≡ 0)
+    → waiting s ≤ max (g .floor) (2 * holds s cell.RecordCount)
 
--- 5. On the tables of a run no start and no step answers 16 or 29.
+-- 6. On the tables of a run no start and no step answers 16 or 29.
 abbrev pub Unbroken : Settings → Type 0
-Unbroken g = (s : State) (h : List Event) → Run g s h → (m : Move) → (act g s m .answer .number ≢ 16) × (act g s m .answer .number ≢ 29)
+Unbroken g =
+    (s : State) (h : List Event) → Run g s h → (m : Move)
+    → (act g s m .answer .number ≢ 16) × (act g s m .answer .number ≢ 29)

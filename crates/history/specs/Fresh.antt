@@ -12,6 +12,7 @@ use Rattle.rules.specs.declared.Row.{Row}
 use Rattle.lists.specs.Occ.{occ, eq01, eq01-other, sum}
 use Rattle.lists.specs.Flat.{Rows}
 use Rattle.lists.specs.Heap.{Heap, At, at-nil, waits}
+use Rattle.lists.specs.Each.{Each}
 use Rattle.lists.specs.Tab.{tab, tab-ext, tab-same, zeros}
 use Rattle.view.specs.Field.{field}
 use Rattle.view.specs.View.{View, viewOf, shardHeads}
@@ -27,6 +28,7 @@ use Rattle.balance.specs.Swing.{SwingIn, swing, size-0}
 use Rattle.claims.specs.Claim.{ClaimsIn, Val, Safe}
 use Rattle.ranges.specs.Range.{Below, Fit, Ranges}
 use Rattle.history.specs.Demand3.{fresh}
+use Rattle.history.specs.Told.{Aims}
 
 abbrev none : ℕ → List ℕ
 none n = replicate n 0
@@ -209,3 +211,6 @@ fresh-ranges g = record {
   next = low nodes (suc nodes);
   state = low 2 (suc nodes);
 }
+
+pub fresh-aims : Each idle (Aims []) (replicate threads idle)
+fresh-aims u _ = each (Aims []) (λ u q. absurd (omega arith)) threads u

@@ -1,14 +1,16 @@
 -- The invariant of every run: the layers together, on the state and on its history.
 use mathlib.Core.Path.{_≡_, refl, sym, ap, _∙_, subst}
 use mathlib.Core.Logic.{_≢_, _⊎_, inl, inr}
+use mathlib.Core.Bool.{false}
 use mathlib.Core.List.{List, [], _∷_}
 use Prim.Native.Nat.{ℕ, zero, suc, _+_, _^_, _≤_, _<_}
 use native.Mathlib.Decide.{ℕ-discrete}
 use native.Mathlib.Nat.{zero-add}
 use native.Mathlib.Omega.{arith}
+use lib.Dec.{eqb}
 use lib.ListN.{length, getD, set}
 use lib.Seq.{getD-set-same, getD-set-other}
-use borrow.Author.Tests.{ne-eqb, lt-ltb}
+use borrow.Author.Tests.{eqb-false, ne-eqb, lt-ltb}
 use Rattle.rules.specs.Sizes.{nodes, threads, words, Settings, base}
 use Rattle.rules.specs.Words.{shardOf}
 use Rattle.rules.specs.Pc
@@ -25,7 +27,8 @@ use Rattle.rules.specs.declared.Seen.{Seen}
 use Rattle.bits.specs.BitLaws.{shard-below}
 use Rattle.lists.specs.Occ.{eq01, eq01-same, eq01-other, sum}
 use Rattle.lists.specs.Heap.{waits}
-use Rattle.view.specs.Every.{pc-is}
+use Rattle.lists.specs.Each.{Each, each-put}
+use Rattle.view.specs.Every.{pc-is, every-start, two}
 use Rattle.view.specs.View.{View, viewOf, named, applies, enters}
 use Rattle.view.specs.Given.{Sized, guard-words}
 use Rattle.view.specs.Long.{long}
@@ -48,9 +51,9 @@ use Rattle.claims.specs.Claim.{ClaimsIn}
 use Rattle.ranges.specs.Range.{Ranges}
 use Rattle.ranges.specs.RangeStep.{range-place, range-ends, range-begin}
 use Rattle.claims.specs.ClaimStep.{claim-place, claim-ends, claim-begin, reclaim-waits}
-use Rattle.history.specs.Demand3.{fresh, row, Move, act, Event, eventBy, eventOf, event, Run, claims, claimed, retires, reclaims}
-use Rattle.history.specs.Fresh.{nothing, fresh-view, fresh-sized, fresh-heap, fresh-records, fresh-zone, fresh-count, fresh-tally, fresh-total, fresh-swing, fresh-claims, fresh-ranges, fresh-waits}
-use Rattle.history.specs.Told.{Told, told}
+use Rattle.history.specs.Demand3.{fresh, row, Move, act, Event, eventBy, eventOf, event, Run, claims, retires, reclaims}
+use Rattle.history.specs.Fresh.{nothing, fresh-view, fresh-sized, fresh-heap, fresh-records, fresh-zone, fresh-count, fresh-tally, fresh-total, fresh-swing, fresh-claims, fresh-ranges, fresh-aims, fresh-waits}
+use Rattle.history.specs.Told.{tells, Aims, Told, told}
 
 -- settings as document 02 may choose them, with a shard rule that stays among them
 pub record Chosen (g : Settings) : Type 0 where
@@ -82,6 +85,7 @@ pub record InvAt (g : Settings) (v : View) (h : List Event) : Type 0 where
   pub swing : SwingIn v
   pub claim : ClaimsIn v (claims h) lists
   pub ranges : Ranges g v
+  pub aims : Each idle (Aims h) (v .rows)
   pub ledger : (n : ℕ) → sum (retires n) h ≡ sum (reclaims n) h + waits (v .nodes .state) n
 
 pub record Inv (g : Settings) (s : State) (h : List Event) : Type 0 where
@@ -90,11 +94,11 @@ pub record Inv (g : Settings) (s : State) (h : List Event) : Type 0 where
 
 -- nothing happened
 quietly : (g : Settings) (v : View) (h : List Event) (e : Event) → e ≡ Event.quiet → InvAt g v h → InvAt g v (e ∷ h)
-quietly g v h e q I = subst (λ (x : Event). InvAt g v (x ∷ h)) (sym q) (record { lists = I .lists; heap = I .heap; records = I .records; zone = I .zone; count = I .count; tally = I .tally; total = I .total; swing = I .swing; claim = I .claim; ranges = I .ranges; ledger = λ n. let a = I .ledger n in omega arith })
+quietly g v h e q I = subst (λ (x : Event). InvAt g v (x ∷ h)) (sym q) (record { lists = I .lists; heap = I .heap; records = I .records; zone = I .zone; count = I .count; tally = I .tally; total = I .total; swing = I .swing; claim = I .claim; ranges = I .ranges; aims = I .aims; ledger = λ n. let a = I .ledger n in omega arith })
 
 -- an answer from 16 on is no event
-none-by : (p : Pc) (r : Row) (n : ℕ) → 16 ≤ n → eventBy p r (answer n 0) ≡ Event.quiet
-none-by p r n h = rw (ne-eqb n 4 (omega arith), lt-ltb 15 n (omega arith))
+none-by : (t : ℕ) (p : Pc) (r : Row) (n : ℕ) → 16 ≤ n → eventBy t p r (answer n 0) ≡ Event.quiet
+none-by t p r n h = rw (ne-eqb n 4 (omega arith), lt-ltb 15 n (omega arith))
 
 module _ (g : Settings) (C : Chosen g) (s : State) (h : List Event) (I : Inv g s h) where
   abbrev v : View
@@ -129,10 +133,10 @@ module _ (g : Settings) (C : Chosen g) (s : State) (h : List Event) (I : Inv g s
     w : r .reclaimable ≢ 0 → getD (v .nodes .state) (r .reclaimable) 0 ≡ 2
     w = reclaim-waits g v (A .lists) (A .heap) (A .records) (A .zone) (claims h) (A .claim) (long s) t (inside t ht) gw
 
-    T : Told v t (claims h) p (does g p r i)
-    T = told g v (long s) t (claims h) p i l w
+    T : Told v t h p (does g p r i)
+    T = told g v (long s) t (inside t ht) h (A .aims) p i l w
 
-    taken : InvAt g v′ (eventBy p r (answer (does g p r i .number) (does g p r i .value)) ∷ h)
+    taken : InvAt g v′ (tells v t p (does g p r i) ∷ h)
     taken = record {
       lists = N .lists;
       heap = N .inv;
@@ -144,19 +148,20 @@ module _ (g : Settings) (C : Chosen g) (s : State) (h : List Event) (I : Inv g s
       swing = swing-place g v (A .swing) t (inside t ht) (l .early) p i l;
       claim = subst (λ (c : List ℕ). ClaimsIn v′ c (N .lists)) (sym (T .claim)) (claim-place g v (A .lists) (A .heap) (A .records) (A .zone) (claims h) (A .claim) (long s) t (inside t ht) gw p i l N);
       ranges = range-place g (C .allowed) v (A .lists) (A .heap) (A .records) (claims h) (A .claim) (A .ranges) (long s .rows) t ht p i l;
+      aims = T .aims;
       ledger = λ n. let a = A .ledger n in let b = T .waiting n in let c = T .retire n in omega arith;
     }
 
   -- the row of the tables is the view's
-  seen-row : (t : ℕ) (o : Out) → t < threads → Inv g (o .state) (eventBy (pcOf (rowIn v t .place)) (rowIn v t) (o .answer) ∷ h) → Inv g (o .state) (eventBy (pcOf (row s t .place)) (row s t) (o .answer) ∷ h)
-  seen-row t o ht = subst (λ (x : Row). Inv g (o .state) (eventBy (pcOf (x .place)) x (o .answer) ∷ h)) (row-view s t ht)
+  seen-row : (t : ℕ) (o : Out) → t < threads → Inv g (o .state) (eventBy t (pcOf (rowIn v t .place)) (rowIn v t) (o .answer) ∷ h) → Inv g (o .state) (eventBy t (pcOf (row s t .place)) (row s t) (o .answer) ∷ h)
+  seen-row t o ht = subst (λ (x : Row). Inv g (o .state) (eventBy t (pcOf (x .place)) x (o .answer) ∷ h)) (row-view s t ht)
 
-  step-inv : (t : ℕ) (o : Out) → Turn g s t o → Inv g (o .state) (eventBy (pcOf (row s t .place)) (row s t) (o .answer) ∷ h)
-  step-inv t o (Turn.stays n b x y e) = subst (λ (w : Out). Inv g (w .state) (eventBy (pcOf (row s t .place)) (row s t) (w .answer) ∷ h)) (sym e) (record { sized = I .sized; at = quietly g v h _ (none-by (pcOf (row s t .place)) (row s t) n b) A })
+  step-inv : (t : ℕ) (o : Out) → Turn g s t o → Inv g (o .state) (eventBy t (pcOf (row s t .place)) (row s t) (o .answer) ∷ h)
+  step-inv t o (Turn.stays n b x y e) = subst (λ (w : Out). Inv g (w .state) (eventBy t (pcOf (row s t .place)) (row s t) (w .answer) ∷ h)) (sym e) (record { sized = I .sized; at = quietly g v h _ (none-by t (pcOf (row s t .place)) (row s t) n b) A })
   step-inv t o (Turn.stops n k w hk ht a e z d) = seen-row t o ht (record {
     sized = z;
-    at = subst (λ (x : View). InvAt g x (eventBy (pcOf (rowIn v t .place)) (rowIn v t) (o .answer) ∷ h)) (sym e)
-        (quietly g _ h _ (ap (eventBy (pcOf (rowIn v t .place)) (rowIn v t)) a ∙ none-by (pcOf (rowIn v t .place)) (rowIn v t) n (big k))
+    at = subst (λ (x : View). InvAt g x (eventBy t (pcOf (rowIn v t .place)) (rowIn v t) (o .answer) ∷ h)) (sym e)
+        (quietly g _ h _ (ap (eventBy t (pcOf (rowIn v t .place)) (rowIn v t)) a ∙ none-by t (pcOf (rowIn v t .place)) (rowIn v t) n (big k))
         (record {
           lists = A .lists;
           heap = heap-ends g (C .allowed) v (A .lists) (A .heap) t (inside t ht) n w;
@@ -168,6 +173,7 @@ module _ (g : Settings) (C : Chosen g) (s : State) (h : List Event) (I : Inv g s
           swing = swing-ends g v (A .swing) t (inside t ht) hk n;
           claim = claim-ends g v (A .lists) (A .heap) (A .records) (A .zone) (claims h) (A .claim) (long s) t (inside t ht) (guard-words s (I .sized) t ht) n w;
           ranges = range-ends g (C .allowed) v (A .lists) (A .heap) (A .records) (claims h) (A .claim) (A .ranges) (long s .rows) t ht n;
+          aims = each-put idle (Aims h) (v .rows) t idle (inside t ht) (λ q. absurd (omega arith)) (A .aims);
           ledger = A .ledger;
         }));
   })
@@ -177,12 +183,12 @@ module _ (g : Settings) (C : Chosen g) (s : State) (h : List Event) (I : Inv g s
       big (inr q) = omega arith
   step-inv t o (Turn.takes p i ht l a e z) = seen-row t o ht (record {
     sized = z;
-    at = subst (λ (x : View). InvAt g x (eventBy (pcOf (rowIn v t .place)) (rowIn v t) (o .answer) ∷ h)) (sym e)
-        (subst (λ (x : Event). InvAt g (applies t (named (accesses p (rowIn v t))) (does g p (rowIn v t) i) v) (x ∷ h)) (sym (λ j. eventBy ((pc-is p (l .place)) j) (rowIn v t) (a j))) (taken t ht p i l));
+    at = subst (λ (x : View). InvAt g x (eventBy t (pcOf (rowIn v t .place)) (rowIn v t) (o .answer) ∷ h)) (sym e)
+        (subst (λ (x : Event). InvAt g (applies t (named (accesses p (rowIn v t))) (does g p (rowIn v t) i) v) (x ∷ h)) (sym (λ j. eventBy t ((pc-is p (l .place)) j) (rowIn v t) (a j))) (taken t ht p i l));
   })
 
   -- ---- a start
-  begun-events : (t : ℕ) (o : Operation) → Admitted v t o → (claimed (eventOf (answer 1 0) o) (claims h) ≡ claims h)
+  begun-events : (t : ℕ) (o : Operation) → Admitted v t o → (claims (eventOf (answer 1 0) o ∷ h) ≡ claims h)
       × ((n : ℕ) → retires n (eventOf (answer 1 0) o) + waits (v .nodes .state) n ≡ reclaims n (eventOf (answer 1 0) o) + waits (enters t (begins g o) v .nodes .state) n)
   unfolding begins
   begun-events t Acquire a = (refl, λ n. refl)
@@ -207,6 +213,14 @@ module _ (g : Settings) (C : Chosen g) (s : State) (h : List Event) (I : Inv g s
   begun-events t Eager a = (refl, λ n. refl)
   begun-events t Cleanup a = (refl, λ n. refl)
   begun-events t Shutdown a = (refl, λ n. refl)
+
+  -- no start is at V2
+  aims-begin : (t : ℕ) → t < threads → (o : Operation) → Each idle (Aims (eventOf (answer 1 0) o ∷ h)) (enters t (begins g o) v .rows)
+  unfolding begins
+  aims-begin t ht = every-start (λ (o : Operation). Each idle (Aims (eventOf (answer 1 0) o ∷ h)) (enters t (begins g o) v .rows)) (search (two, starts))
+    where
+      starts : (x : Row) → eqb (x .place) (code Pc.V2) ≡ false → Each idle (Aims h) (set (v .rows) t x)
+      starts x e = each-put idle (Aims h) (v .rows) t x (inside t ht) (λ q. absurd (eqb-false (x .place) (code Pc.V2) e q)) (A .aims)
 
   none-of : (o : Operation) (n x : ℕ) → n ≢ 1 → eventOf (answer n x) o ≡ Event.quiet
   none-of Acquire n x ne = refl
@@ -239,6 +253,7 @@ module _ (g : Settings) (C : Chosen g) (s : State) (h : List Event) (I : Inv g s
           swing = swing-begin g v (A .swing) t (inside t ht) o;
           claim = subst (λ (c : List ℕ). ClaimsIn (enters t (begins g o) v) c (begunLists (A .lists) t o)) (sym (b .0)) (claim-begin g v (A .lists) (A .heap) (A .records) (A .zone) (claims h) (A .claim) (long s) t (inside t ht) (guard-words s (I .sized) t ht) q (long s .rows) o a);
           ranges = range-begin g (C .allowed) v (A .lists) (A .heap) (A .records) (claims h) (A .claim) (A .ranges) (long s .rows) t ht (C .shard) o a;
+          aims = aims-begin t ht o;
           ledger = λ n. let x = A .ledger n in let y = b .1 n in omega arith;
         }));
   }
@@ -250,7 +265,7 @@ module _ (g : Settings) (C : Chosen g) (s : State) (h : List Event) (I : Inv g s
 pub inv-fresh : (g : Settings) → Inv g fresh []
 inv-fresh g = record {
   sized = fresh-sized;
-  at = subst (λ (x : View). InvAt g x []) (sym fresh-view) (record { lists = _; heap = fresh-heap g; records = fresh-records; zone = fresh-zone; count = fresh-count g; tally = fresh-tally; total = fresh-total; swing = fresh-swing; claim = fresh-claims; ranges = fresh-ranges g; ledger = λ n. sym (zero-add (waits (nothing .nodes .state) n) ∙ fresh-waits n) });
+  at = subst (λ (x : View). InvAt g x []) (sym fresh-view) (record { lists = _; heap = fresh-heap g; records = fresh-records; zone = fresh-zone; count = fresh-count g; tally = fresh-tally; total = fresh-total; swing = fresh-swing; claim = fresh-claims; ranges = fresh-ranges g; aims = fresh-aims; ledger = λ n. sym (zero-add (waits (nothing .nodes .state) n) ∙ fresh-waits n) });
 }
 
 -- every run meets the invariant

@@ -1,10 +1,10 @@
 pub mod Demand3
 pub mod Seen
-pub mod Events
-pub mod Fresh
 pub mod Told
+pub mod Fresh
 pub mod Invariant
 pub mod Safety
+pub mod Hazards
 pub mod OnePlace
 pub mod Once
 pub mod Bound

@@ -1,11 +1,12 @@
 -- What the statements of demand 3 read from the tables is what the layers' view has.
 use mathlib.Core.Path.{_≡_, refl, sym, ap, ap₂, _∙_}
-use Prim.Native.Nat.{ℕ, zero, suc, _+_, _*_, _≤_, _<_}
+use mathlib.Core.List.{List}
+use Prim.Native.Nat.{ℕ, zero, suc, _+_, _*_, _<_}
 use native.Mathlib.Decide.{decLt}
 use native.Mathlib.Omega.{arith}
-use lib.ListN.{getD, List·getD-eq-default}
+use lib.ListN.{length, getD, List·getD-eq-default}
 use borrow.Author.Tests.{lt-ltb, ne-eqb}
-use Rattle.rules.specs.Sizes.{nodes}
+use Rattle.rules.specs.Sizes.{records, nodes}
 use Rattle.rules.specs.Cells.{address}
 use Rattle.rules.specs.Step.{State, fetched}
 use Rattle.rules.specs.declared.Named.the-variants as cell
@@ -13,7 +14,8 @@ use Rattle.lists.specs.Occ.{eq01, eq01-other, sum}
 use Rattle.lists.specs.Tab.{tab, tab-ext, tab-get}
 use Rattle.lists.specs.Heap
 use Rattle.view.specs.View.{viewOf, rowsIn, guardsIn}
-use Rattle.view.specs.Field.{field-length}
+use Rattle.view.specs.Field.{IsId}
+use Rattle.view.specs.Long.{long}
 use Rattle.view.specs.Written.{fetched-view}
 use Rattle.balance.specs.Balance
 use Rattle.history.specs.Demand3.{holds, waits, waiting}
@@ -22,6 +24,15 @@ sum-tab : {A B : Type 0} (F : A → ℕ) (G : B → ℕ) (n : ℕ) (f : ℕ → 
 unfolding tab
 sum-tab F G zero f g h = refl
 sum-tab F G (suc n) f g h = ap₂ _+_ (h 0 (omega arith)) (sum-tab F G n (λ i. f (suc i)) (λ i. g (suc i)) (λ i q. h (suc i) (omega arith)))
+
+-- an id that is none has 0 either way
+by-id : (n : ℕ) (l : List ℕ) (f : ℕ → ℕ) → length l ≡ suc n → f 0 ≡ 0 → getD l 0 0 ≡ 0 → ((i : ℕ) → n < i → f i ≡ 0) → ((i : ℕ) → IsId n i → f i ≡ getD l i 0) → (i : ℕ) → f i ≡ getD l i 0
+by-id n l f hl a b out at zero = a ∙ sym b
+by-id n l f hl a b out at (suc i) = go (decLt i n)
+  where
+    go : Dec (i < n) → f (suc i) ≡ getD l (suc i) 0
+    go (yes h) = at (suc i) (omega arith, omega arith)
+    go (no h) = out (suc i) (omega arith) ∙ sym (List·getD-eq-default l 0 {n = suc i} (omega arith))
 
 module _ (s : State) where
   pub next-is : (n : ℕ) → 0 < n → n < suc nodes → holds s (cell.NodeNext n) ≡ getD (viewOf s .nodes .next) n 0
@@ -36,21 +47,20 @@ module _ (s : State) where
   unfolding viewOf fetched address
   count-is = refl
 
-  -- an id that is none is not waiting either way
-  pub waits-is : (n : ℕ) → waits s n ≡ Heap.waits (viewOf s .nodes .state) n
+  pub state-is : (n : ℕ) → holds s (cell.NodeState n) ≡ getD (viewOf s .nodes .state) n 0
   unfolding viewOf fetched address
-  waits-is zero = ap (λ (x : ℕ). eq01 x 2) none
-    where
-      none : holds s (cell.NodeState zero) ≡ 0
-      none = refl
-  waits-is (suc n) = ap (λ (x : ℕ). eq01 x 2) (go (decLt n nodes))
-    where
-      none : nodes ≤ n → holds s (cell.NodeState (suc n)) ≡ 0
-      none h = rw (ne-eqb (suc n) 0 (omega arith), lt-ltb nodes (suc n) (omega arith)) refl
+  state-is =
+      by-id nodes (viewOf s .nodes .state) (λ n. holds s (cell.NodeState n)) (long s .state) refl refl (λ i h. rw (ne-eqb i 0 (omega arith), lt-ltb nodes i h) refl)
+      (λ i h. fetched-view (s .cells) (rowsIn (s .rows32) (s .rows64)) (guardsIn (s .guards)) (cell.NodeState i) h)
 
-      go : Dec (n < nodes) → holds s (cell.NodeState (suc n)) ≡ getD (viewOf s .nodes .state) (suc n) 0
-      go (yes h) = fetched-view (s .cells) (rowsIn (s .rows32) (s .rows64)) (guardsIn (s .guards)) (cell.NodeState (suc n)) (omega arith, omega arith)
-      go (no h) = none (omega arith) ∙ sym (List·getD-eq-default (viewOf s .nodes .state) 0 {n = suc n} (let e = field-length 2 nodes (s .cells .nodes) 1 in omega arith))
+  pub hazard-is : (c : ℕ) → holds s (cell.Hazard c) ≡ getD (viewOf s .records .hazard) c 0
+  unfolding viewOf fetched address
+  hazard-is =
+      by-id records (viewOf s .records .hazard) (λ c. holds s (cell.Hazard c)) (long s .hazard) refl refl (λ i h. rw (ne-eqb i 0 (omega arith), lt-ltb records i h) refl)
+      (λ i h. fetched-view (s .cells) (rowsIn (s .rows32) (s .rows64)) (guardsIn (s .guards)) (cell.Hazard i) h)
+
+  pub waits-is : (n : ℕ) → waits s n ≡ Heap.waits (viewOf s .nodes .state) n
+  waits-is n = ap (λ (x : ℕ). eq01 x 2) (state-is n)
 
   pub waiting-is : waiting s ≡ Balance.waiting (viewOf s .nodes .state)
   unfolding viewOf
