@@ -10,7 +10,7 @@ use lib.Dec.{eqb}
 use lib.ListN.{length, getD, set, length-set}
 use lib.Seq.{getD-set-same, getD-set-other}
 use borrow.Author.Tests.{eqb-true, ltb-false, le-ltb}
-use Rattle.rules.specs.Sizes.{steps, nodes, Settings}
+use Rattle.rules.specs.Sizes.{records, steps, nodes, Settings}
 use Rattle.rules.specs.Words.{plus, over, threshold}
 use Rattle.rules.specs.Pc
 use Rattle.rules.specs.Pc.{Pc, pcOf, code}
@@ -76,7 +76,6 @@ pub record CountAt (g : Settings) (mark : ℕ) (st : List ℕ) (count n ticks : 
   -- from shutdown's start on `count` is let be, and the bound is carried
   pub few : mark ≢ 0 → waiting st ≤ max (g .floor) (2 * n)
   pub fits : count < M
-  pub slow : n ≤ ticks
   pub early : ticks ≤ steps
 
 abbrev pub CountIn : Settings → View → Type 0
@@ -160,28 +159,24 @@ module _ (g : Settings) (mark : ℕ) (st : List ℕ) (count n ticks : ℕ) (rows
   ticked : plus ticks 1 ≤ steps
   ticked = omega arith
 
-  ahead : n ≤ plus ticks 1
-  ahead = let a = I .slow in omega arith
-
   -- the states, the count and the row change: ok is the balance
   pub puts : (st′ : List ℕ) (count′ : ℕ) (x : Row) → (mark ≡ 0 → Balance st′ count′ (set rows t x)) → Low g count′ n (set rows t x) → (mark ≢ 0 → waiting st′ ≤ waiting st) → count′ < M → CountAt g mark st′ count′ n (plus ticks 1) (set rows t x)
-  puts st′ count′ x b l w f = record { balance = b; low = l; few = λ m. let a = w m in let c = I .few m in omega arith; fits = f; slow = ahead; early = ticked }
+  puts st′ count′ x b l w f = record { balance = b; low = l; few = λ m. let a = w m in let c = I .few m in omega arith; fits = f; early = ticked }
 
   -- only the row changes
   pub keeps : (x : Row) → owes x ≡ owes r → (Looks count r → (over g count n ≡ false) ⊎ Looks count x) → CountAt g mark st count n (plus ticks 1) (set rows t x)
   keeps x e f = puts st count x (λ m. balanced st count x 0 0 (omega arith) m) (lower x f) (λ m. omega arith) (I .fits)
 
   -- N3: one record more is counted
-  pub recorded : (x : Row) → owes x ≡ owes r → (Looks count r → (over g count n ≡ false) ⊎ Looks count x) → mark ≡ 0 → CountAt g mark st count (plus n 1) (plus ticks 1) (set rows t x)
-  recorded x e f m = record {
+  pub recorded : (x : Row) → n ≤ records → owes x ≡ owes r → (Looks count r → (over g count n ≡ false) ⊎ Looks count x) → mark ≡ 0 → CountAt g mark st count (plus n 1) (plus ticks 1) (set rows t x)
+  recorded x h e f m = record {
     balance = λ z. balanced st count x 0 0 (omega arith) z;
     low = raise (lower x f);
     few = λ z. absurd (z m);
     fits = I .fits;
-    slow = let a = I .slow in omega arith;
     early = ticked;
   }
     where
       raise : Low g count n (set rows t x) → Low g count (plus n 1) (set rows t x)
-      raise (inl z) = inl (over-more g count n (let a = I .slow in omega arith) z)
+      raise (inl z) = inl (over-more g count n (omega arith) z)
       raise (inr w) = inr w

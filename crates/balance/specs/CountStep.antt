@@ -10,7 +10,7 @@ use lib.Dec.{eqb}
 use lib.ListN.{length, getD, set, length-set}
 use lib.Seq.{getD-set-other}
 use borrow.Author.Tests.{eqb-true, ltb-false}
-use Rattle.rules.specs.Sizes.{steps, nodes, threads, Settings}
+use Rattle.rules.specs.Sizes.{records, steps, nodes, threads, Settings}
 use Rattle.rules.specs.Words.{plus, over}
 use Rattle.rules.specs.Pc
 use Rattle.rules.specs.Pc.{Pc, pcOf, code}
@@ -35,7 +35,7 @@ use Rattle.shutdown.specs.Zone.{ZoneIn, Shut, side, mark-open, all-shut-rows}
 use Rattle.balance.specs.Balance
 use Rattle.balance.specs.Balance.{owe, owesOf, owes, waiting, M, Balance, LooksOf, Looks, Low, CountAt, CountIn, over-none, owes-passed, owes-checked, owes-emptied, owes-from, owes-examined, owes-reclaimed}
 
-module _ (g : Settings) (v : View) (I : CountIn g v) (Z : ZoneIn v) (lv : Long v) (t : ℕ) (ht : t < length (v .rows)) (hk : v .counters .ticks < steps) where
+module _ (g : Settings) (v : View) (I : CountIn g v) (Z : ZoneIn v) (hn : v .counters .recordCount ≤ records) (lv : Long v) (t : ℕ) (ht : t < length (v .rows)) (hk : v .counters .ticks < steps) where
   abbrev r : Row
   r = rowIn v t
 
@@ -127,7 +127,7 @@ module _ (g : Settings) (v : View) (I : CountIn g v) (Z : ZoneIn v) (lv : Long v
 
   kN3 : (i : Seen) → Look g v t Pc.N3 r i → At K Pc.N3 (does g Pc.N3 r i)
   kN3 i l = thus (subst (λ (y : ℕ). CountAt g mark st count (plus y 1) (plus ticks 1) (set rows t idle)) (sym (l .x))
-      (Balance.recorded g mark st count n ticks rows I t ht hk idle (sym (owes-is Pc.N3 (l .place))) (λ o. absurd (looks-is Pc.N3 (l .place) o)) (open′ Pc.N3 (l .place) (λ q. q))))
+      (Balance.recorded g mark st count n ticks rows I t ht hk idle hn (sym (owes-is Pc.N3 (l .place))) (λ o. absurd (looks-is Pc.N3 (l .place) o)) (open′ Pc.N3 (l .place) (λ q. q))))
 
   -- ---- states
   freed : (m : ℕ) → m < length st → getD st m 0 ≡ 2 → waiting (set st m 0) + 1 ≡ waiting st
@@ -174,7 +174,7 @@ module _ (g : Settings) (v : View) (I : CountIn g v) (Z : ZoneIn v) (lv : Long v
   kS3 i l =
       thus (let m = all-shut-rows g v Z t ht Pc.S3 (l .place) (λ q. q) .0 in
       let b = goes Pc.S3 (l .place) (λ q. q) idle refl in
-      record { balance = λ z. absurd (let q : _≡_ {A = ℕ} 2 0 = z in omega arith); low = b .low; few = λ _. b .few m; fits = b .fits; slow = b .slow; early = b .early })
+      record { balance = λ z. absurd (let q : _≡_ {A = ℕ} 2 0 = z in omega arith); low = b .low; few = λ _. b .few m; fits = b .fits; early = b .early })
 
   -- ---- every place
   pub count-place : (p : Pc) (i : Seen) → Look g v t p r i → (r .reclaimable ≢ 0 → getD st (r .reclaimable) 0 ≡ 2) → K p (does g p r i)
@@ -196,7 +196,7 @@ pub waiting-le : (l : List ℕ) → waiting l ≤ length l
 waiting-le [] = omega arith
 waiting-le (x ∷ l) = let a = waiting-le l in let b = eq01-le x 2 in omega arith
 
-module _ (g : Settings) (v : View) (I : CountIn g v) (lv : Long v) (idles : (u : ℕ) → u < length (v .rows) → rowIn v u .place ≡ 0) where
+module _ (g : Settings) (v : View) (I : CountIn g v) (hn : v .counters .recordCount ≤ records) (lv : Long v) (idles : (u : ℕ) → u < length (v .rows) → rowIn v u .place ≡ 0) where
   none-owed : (l : List Row) → ((u : ℕ) → u < length l → getD l u idle .place ≡ 0) → sum owes l ≡ 0
   none-owed [] h = refl
   none-owed (x ∷ l) h = let a : owes x ≡ 0 = ap (λ (q : ℕ). owesOf (owe (pcOf q)) (x .rcount)) (h 0 (omega arith)) in let b = none-owed l (λ u hu. h (suc u) (omega arith)) in omega arith
@@ -212,7 +212,6 @@ module _ (g : Settings) (v : View) (I : CountIn g v) (lv : Long v) (idles : (u :
 
       go : Low g (v .counters .count) (v .counters .recordCount) (v .rows) → waiting (v .nodes .state) ≤ max (g .floor) (2 * v .counters .recordCount)
       go (inl z) =
-          let a = I .slow in
           let b = I .early in
           let c = small in
           let d = same in
@@ -227,7 +226,7 @@ module _ (g : Settings) (v : View) (I : CountIn g v) (lv : Long v) (idles : (u :
       go (no m) = I .few m
 
 -- ---- starts: no step is counted
-module _ (g : Settings) (v : View) (I : CountIn g v) (lv : Long v) (t : ℕ) (ht : t < length (v .rows)) (mark0 : v .heads .mark ≡ 0) (e : rowIn v t .place ≡ code Pc.Idle) where
+module _ (g : Settings) (v : View) (I : CountIn g v) (hn : v .counters .recordCount ≤ records) (lv : Long v) (t : ℕ) (ht : t < length (v .rows)) (mark0 : v .heads .mark ≡ 0) (e : rowIn v t .place ≡ code Pc.Idle) where
   abbrev rows′ : Row → List Row
   rows′ x = set (v .rows) t x
 
@@ -251,7 +250,6 @@ module _ (g : Settings) (v : View) (I : CountIn g v) (lv : Long v) (t : ℕ) (ht
     low = lows x;
     few = λ m. absurd (m mark0);
     fits = I .fits;
-    slow = I .slow;
     early = I .early;
   }
 
@@ -274,7 +272,7 @@ module _ (g : Settings) (v : View) (I : CountIn g v) (lv : Long v) (t : ℕ) (ht
   unfolding begins
   shutdown a hl =
       let b = plain (freshAt 12 (code Pc.S1) 0 0 0 0 0) refl in
-      record { balance = λ z. absurd (let q : _≡_ {A = ℕ} 1 0 = z in omega arith); low = b .low; few = λ _. few g v I lv (λ u hu. a .0 u (rw hl at hu)); fits = b .fits; slow = b .slow; early = b .early }
+      record { balance = λ z. absurd (let q : _≡_ {A = ℕ} 1 0 = z in omega arith); low = b .low; few = λ _. few g v I hn lv (λ u hu. a .0 u (rw hl at hu)); fits = b .fits; early = b .early }
 
   pub count-begin : (o : Operation) → Admitted v t o → length (v .rows) ≡ threads → CountIn g (enters t (begins g o) v)
   unfolding begins

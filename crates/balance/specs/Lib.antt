@@ -3,3 +3,4 @@ pub mod CountStep
 pub mod Tally
 pub mod Total
 pub mod Swing
+pub mod Used

@@ -34,8 +34,7 @@ use Rattle.lists.specs.Heap
 use Rattle.lists.specs.Each.{each-set}
 use Rattle.lists.specs.Tab.{zeros}
 use Rattle.view.specs.Field.{IsId, cleared}
-use Rattle.view.specs.Ranges.{limit}
-use Rattle.view.specs.View.{View, InTable, named, get, applies, enters}
+use Rattle.view.specs.View.{View, named, get, applies, enters}
 use Rattle.view.specs.Every.{pc-is, classed, every, every-start, two, never, At, thus, either, pick-all, pick-case}
 use Rattle.view.specs.Long.{Long}
 use Rattle.view.specs.Rest.{all-passed, all-checked, all-emptied, all-from, all-examined, all-reclaimed, all-shut}
@@ -47,6 +46,7 @@ use Rattle.heap.specs.HeapStep.{Next, grabs, gains, begunLists}
 use Rattle.records.specs.Hold
 use Rattle.records.specs.Hold.{Hold, hold, has, hasOf, off, offOf, KnowOf, RecordsIn}
 use Rattle.records.specs.RecordMoves
+use Rattle.records.specs.RecordStep.{untaken-free}
 use Rattle.shutdown.specs.Zone.{side, Shut, Open, ShutRow, ZoneIn, all-shut-rows, mark-open}
 use Rattle.claims.specs.Claim
 use Rattle.claims.specs.Claim.{Claim, Stolen, Guarded, Scan, scan, Part, SafeOf, Safe, ValOf, Val, Keeper, Held, ClaimsAt, ClaimsIn, safe-less, stolen-other, keeper-set}
@@ -366,12 +366,8 @@ module _ (g : Settings) (v : View) (ls : List (List ℕ)) (H : HeapIn g v ls) (R
 
   kN1 : (i : Seen) → Look g v t Pc.N1 r i → At (λ (p : Pc) (e : Effect). K p i e) Pc.N1 (does g Pc.N1 r i)
   kN1 i l = thus (pick-case (K Pc.N1 i) (eqb (i .untaken) 0) _ _ (λ _ N. calm Pc.N1 (l .place) (omega arith) i N (λ n. refl) idle tt tt)
-      (λ e N. let id : IsId records (i .untaken) = subst (λ (b : Bool). InTable (pick b cell.Nothing (cell.Holder (i .untaken)))) e (l .beyond) in
-      reheld Pc.N1 (l .place) (omega arith) i N (λ n. refl) (i .untaken) 1 (let a = lv .holder in let b = id .1 in omega arith) (λ h. absurd (untaken e id h (l .lowest (eqb-false (i .untaken) 0 e)))) _ tt tt))
-    where
-      untaken : eqb (i .untaken) 0 ≡ false → IsId records (i .untaken) → 2 ≤ getD ho (i .untaken) 0 → (getD ho (i .untaken) 0 ≡ 0) ⊎ (threads + 1 < getD ho (i .untaken) 0) → ⊥
-      untaken e id h (inl z) = omega arith
-      untaken e id h (inr z) = let y : i .y ≡ getD ho (i .untaken) 0 = subst (λ (b : Bool). i .y ≡ get (pick b cell.Nothing (cell.Holder (i .untaken))) v) e (l .y) in let f : i .y ≤ threads + 1 = subst (λ (b : Bool). InTable (pick b cell.Nothing (cell.Holder (i .untaken))) → i .y ≤ limit (pick b cell.Nothing (cell.Holder (i .untaken)))) e (λ _. l .fit) id in omega arith
+      (λ e N. let k = untaken-free l e in
+      reheld Pc.N1 (l .place) (omega arith) i N (λ n. refl) (i .untaken) 1 (let a = lv .holder in let b = k .0 .1 in omega arith) (λ h. absurd (let z = k .1 in omega arith)) _ tt tt))
 
   -- ---- N2: the list of records, with the new one in front or with something written behind it
   relinked : (i : Seen) {v′ : View} (N : Next g v ls t Pc.N2 i v′) → r .place ≡ code Pc.N2 → (next′ : List ℕ) (head′ : ℕ) → ((L : List ℕ) → Seg next′ head′ L 0 → (n : ℕ) → occ n (R .all) ≤ occ n L) → ((rec : ℕ) (l : List ℕ) → Part next head l → Seg next rec l 0 → Seg next′ rec l 0) → (x : Row) → Val hz x → Safe next′ head′ gs cl (N .lists) t x

@@ -2,7 +2,7 @@
 -- in Proved.antt.
 -- Beside the rules this needs four words of lists: `tab n f` is f 0 to f (n - 1), `cat` joins lists, `occ n l` counts n
 -- in l, `sum f l` adds f over l.
-use Prim.Native.Nat.{ℕ, zero, suc, _+_, _*_, _^_, _≤_, _<_, max}
+use Prim.Native.Nat.{ℕ, zero, suc, _+_, _*_, _^_, _≤_, _<_, min, max}
 use mathlib.Core.Path.{_≡_}
 use mathlib.Core.Logic.{_≢_}
 use mathlib.Core.Bool.{Bool}
@@ -35,7 +35,8 @@ use Rattle.lists.specs.Tab.{tab}
 unfoldable pub fresh : State
 fresh =
     state
-    (shared (replicate 11 0) (replicate 5 0) (replicate (4 * records) 0) (replicate sources 0) (replicate (2 * nodes) 0))
+    (shared (replicate 11 0) (replicate 5 0)
+    (replicate (4 * records) 0) (replicate sources 0) (replicate (2 * nodes) 0))
     (replicate (row32 * threads) 0) (replicate (row64 * threads) 0) (replicate (words * threads) 0)
 
 abbrev pub row : State → ℕ → Row
@@ -64,8 +65,8 @@ pub data Event : Type 0 where
   retired : ℕ → Event
   reclaimed : ℕ → Event
 
--- thread t's step stores to the cell: a record's hazard, or the mark, which shutdown's last step stores as it clears the
--- records
+-- thread t's step stores to the cell: a record's hazard, or the mark, which shutdown's last step stores as it clears
+-- the records
 abbrev pub storedIn : ℕ → Named → Event
 storedIn t cell.Nothing = quiet
 storedIn t cell.RecordHead = quiet
@@ -146,30 +147,18 @@ claims (retired n ∷ h) = claims h
 claims (reclaimed n ∷ h) = claims h
 
 -- ---- 1 where the event is a store to record c's hazard
-abbrev pub stores : ℕ → Event → ℕ
-stores c quiet = 0
-stores c (stored t d) = eq01 c d
-stores c cleared = 1
-stores c (validated t n) = 0
-stores c (retired n) = 0
-stores c (reclaimed n) = 0
+abbrev pub overwrites : ℕ → Event → ℕ
+overwrites c =
+    elim [ quiet ↦ 0 | stored t d ↦ eq01 c d | cleared ↦ 1 | validated t m ↦ 0 | retired m ↦ 0 | reclaimed m ↦ 0 ]
 
 -- ---- how often node n's retirement was accepted, and how often n was reclaimed
 abbrev pub retires : ℕ → Event → ℕ
-retires n quiet = 0
-retires n (stored t c) = 0
-retires n cleared = 0
-retires n (validated t m) = 0
-retires n (retired m) = eq01 n m
-retires n (reclaimed m) = 0
+retires n =
+    elim [ quiet ↦ 0 | stored t c ↦ 0 | cleared ↦ 0 | validated t m ↦ 0 | retired m ↦ eq01 n m | reclaimed m ↦ 0 ]
 
 abbrev pub reclaims : ℕ → Event → ℕ
-reclaims n quiet = 0
-reclaims n (stored t c) = 0
-reclaims n cleared = 0
-reclaims n (validated t m) = 0
-reclaims n (retired m) = 0
-reclaims n (reclaimed m) = eq01 n m
+reclaims n =
+    elim [ quiet ↦ 0 | stored t c ↦ 0 | cleared ↦ 0 | validated t m ↦ 0 | retired m ↦ 0 | reclaimed m ↦ eq01 n m ]
 
 -- ---- waiting: 1 where node n waits; how many do
 abbrev pub waits : State → ℕ → ℕ
@@ -177,6 +166,14 @@ waits s n = eq01 (holds s (cell.NodeState n)) 2
 
 abbrev pub waiting : State → ℕ
 waiting s = sum (waits s) (tab nodes suc)
+
+-- ---- no thread is inside an operation
+abbrev pub AllIdle : State → Type 0
+AllIdle s = (t : ℕ) → t < threads → row s t .place ≡ 0
+
+-- ---- how many records are used: those whose holder is not 0
+abbrev pub used : State → ℕ
+used s = sum (λ c. min 1 (holds s (cell.Holder c))) (tab records suc)
 
 -- ---- the places of waiting nodes: the head of a list, and the node after which it ends, 0 where it ends by itself.
 -- A shard's list; in a thread's row what is left of its stolen lists, its reclaim list, its kept list, and a retire's
@@ -211,7 +208,8 @@ abbrev pub Hazards : Settings → Type 0
 Hazards g =
     (s : State) (h : List Event) → Run g s h → (c : ℕ)
     → (getD (claims h) c 0 ≢ 0 → holds s (cell.Hazard c) ≡ getD (claims h) c 0)
-    × ((m : Move) → holds (act g s m .state) (cell.Hazard c) ≢ holds s (cell.Hazard c) → stores c (event g s m) ≡ 1)
+    × ((m : Move)
+    → holds (act g s m .state) (cell.Hazard c) ≢ holds s (cell.Hazard c) → overwrites c (event g s m) ≡ 1)
 
 -- 3. Over all places together a waiting node stands once, and nothing else stands there.
 abbrev pub OnePlace : Settings → Type 0
@@ -227,10 +225,17 @@ Once g =
 -- 5. When no thread is inside an operation, at most max(floor, 2 x records) nodes wait.
 abbrev pub Bound : Settings → Type 0
 Bound g =
-    (s : State) (h : List Event) → Run g s h → ((t : ℕ) → t < threads → row s t .place ≡ 0)
-    → waiting s ≤ max (g .floor) (2 * holds s cell.RecordCount)
+    (s : State) (h : List Event) → Run g s h → AllIdle s → waiting s ≤ max (g .floor) (2 * holds s cell.RecordCount)
 
--- 6. On the tables of a run no start and no step answers 16 or 29.
+-- 6. The record count is at most 1,024, and when no thread is inside an operation, until shutdown's last step sets the
+-- mark to 2, it is the number of used records.
+abbrev pub Counted : Settings → Type 0
+Counted g =
+    (s : State) (h : List Event) → Run g s h
+    → (holds s cell.RecordCount ≤ records)
+    × (AllIdle s → holds s cell.Shutdown ≢ 2 → holds s cell.RecordCount ≡ used s)
+
+-- 7. On the tables of a run no start and no step answers 16 or 29.
 abbrev pub Unbroken : Settings → Type 0
 Unbroken g =
     (s : State) (h : List Event) → Run g s h → (m : Move)

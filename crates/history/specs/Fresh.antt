@@ -19,9 +19,10 @@ use Rattle.view.specs.View.{View, viewOf, shardHeads}
 use Rattle.view.specs.Given.{Sized}
 use Rattle.heap.specs.Hooks.{hooks, hv, loose}
 use Rattle.heap.specs.Stage.{HeapIn, Shape, Ends}
-use Rattle.records.specs.Hold.{RecordsIn, Know, has, lock, off}
+use Rattle.records.specs.Hold.{RecordsIn, Know, has, lock, off, used}
 use Rattle.shutdown.specs.Zone.{ZoneIn, OpenRow}
 use Rattle.balance.specs.Balance.{CountIn, M, waiting, owes, over-none}
+use Rattle.balance.specs.Used.{UsedIn, links}
 use Rattle.balance.specs.Tally.{TallyIn, Done, inside}
 use Rattle.balance.specs.Total.{TotalIn}
 use Rattle.balance.specs.Swing.{SwingIn, swing, size-0}
@@ -162,9 +163,15 @@ fresh-count g = record {
   low = inl (over-none g 0);
   few = λ z. absurd (z refl);
   fits = omega arith;
-  slow = omega arith;
   early = omega arith;
 }
+
+none-used : (k : ℕ) → sum used (none k) ≡ 0
+none-used zero = refl
+none-used (suc k) = let a = none-used k in omega arith
+
+pub fresh-used : UsedIn nothing
+fresh-used = record { counted = λ _. let a = sums links refl threads in let b = none-used (suc records) in omega arith; most = omega arith; null = refl }
 
 pub fresh-tally : TallyIn nothing
 fresh-tally = record { tally = sym (sums inside refl threads); dones = λ u _. each (λ u x. Done x) (λ u. tt) threads u }

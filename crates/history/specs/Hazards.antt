@@ -19,7 +19,7 @@ use Rattle.view.specs.Turn.{Turn, row-view, step-turn}
 use Rattle.view.specs.Begin
 use Rattle.view.specs.Begin.{Begin, start-begin}
 use Rattle.claims.specs.ClaimStep.{reclaim-waits}
-use Rattle.history.specs.Demand3.{row, Move, act, event, eventBy, Event, Run, claims, stores, Hazards}
+use Rattle.history.specs.Demand3.{row, Move, act, event, eventBy, Event, Run, claims, overwrites, Hazards}
 use Rattle.history.specs.Seen.{hazard-is}
 use Rattle.history.specs.Told.{told}
 use Rattle.history.specs.Invariant.{Chosen, Inv, inv-run}
@@ -38,14 +38,14 @@ module _ (g : Settings) (C : Chosen g) (s : State) (h : List Event) (run : Run g
   same : (s′ : State) → s′ ≡ s → Changes s′ → ⊥
   same s′ e ne = ne (ap (λ (x : State). getD (viewOf x .records .hazard) c 0) e)
 
-  of-step : (t : ℕ) (o : Out) → Turn g s t o → Changes (o .state) → stores c (eventBy t (pcOf (row s t .place)) (row s t) (o .answer)) ≡ 1
+  of-step : (t : ℕ) (o : Out) → Turn g s t o → Changes (o .state) → overwrites c (eventBy t (pcOf (row s t .place)) (row s t) (o .answer)) ≡ 1
   of-step t o (Turn.stays n b x y e) ne = absurd (same (o .state) (ap (λ (x : Out). x .state) e) ne)
   of-step t o (Turn.stops n k w hk ht a e z d) ne = absurd (ne (ap (λ (x : View). getD (x .records .hazard) c 0) e))
   of-step t o (Turn.takes p i ht l a e z) ne =
       let hr : t < length (v .rows) = rw (long s .rows) ht in
       let w = reclaim-waits g v (I .at .lists) (I .at .heap) (I .at .records) (I .at .zone) (claims h) (I .at .claim) (long s) t hr (guard-words s (I .sized) t ht) in
       let T = told g v (long s) t hr h (I .at .aims) p i l w in
-      subst (λ (x : Row). stores c (eventBy t (pcOf (x .place)) x (o .answer)) ≡ 1) (row-view s t ht) (rw (pc-is p (l .place), a) (T .heard .changes c (λ q. ne (ap (λ (x : View). getD (x .records .hazard) c 0) e ∙ q))))
+      subst (λ (x : Row). overwrites c (eventBy t (pcOf (x .place)) x (o .answer)) ≡ 1) (row-view s t ht) (rw (pc-is p (l .place), a) (T .heard .changes c (λ q. ne (ap (λ (x : View). getD (x .records .hazard) c 0) e ∙ q))))
 
   started : (t : ℕ) (o : Operation) → enters t (begins g o) v .records .hazard ≡ v .records .hazard
   unfolding begins
@@ -56,7 +56,7 @@ module _ (g : Settings) (C : Chosen g) (s : State) (h : List Event) (run : Run g
   of-start t o w (Begin.nothing e) ne = same (w .state) (ap (λ (x : Out). x .state) e) ne
   of-start t o w (Begin.begun ht m q a ea e z) ne = ne (ap (λ (x : View). getD (x .records .hazard) c 0) e ∙ ap (λ (l : List ℕ). getD l c 0) (started t o))
 
-  changes : (m : Move) → Changes (act g s m .state) → stores c (event g s m) ≡ 1
+  changes : (m : Move) → Changes (act g s m .state) → overwrites c (event g s m) ≡ 1
   changes (Move.start t o) ne = absurd (of-start t o (startOf g s t o) (start-begin g s t o) ne)
   changes (Move.step t flag clock) ne = of-step t (stepOf g s t flag clock) (step-turn g s t flag clock) ne
 

@@ -44,6 +44,7 @@ use Rattle.records.specs.RecordStep.{record-place, record-ends, record-begin}
 use Rattle.shutdown.specs.Zone.{ZoneIn, zone-place, zone-ends, zone-begin, all-shut-rows, shut-free}
 use Rattle.balance.specs.Balance.{CountIn}
 use Rattle.balance.specs.CountStep.{count-place, count-ends, count-begin}
+use Rattle.balance.specs.Used.{UsedIn, used-place, used-ends, used-begin}
 use Rattle.balance.specs.Tally.{TallyIn, tally-place, tally-ends, tally-begin}
 use Rattle.balance.specs.Total.{TotalIn, total-place, total-ends, total-begin}
 use Rattle.balance.specs.Swing.{SwingIn, swing-place, swing-ends, swing-begin}
@@ -52,7 +53,7 @@ use Rattle.ranges.specs.Range.{Ranges}
 use Rattle.ranges.specs.RangeStep.{range-place, range-ends, range-begin}
 use Rattle.claims.specs.ClaimStep.{claim-place, claim-ends, claim-begin, reclaim-waits}
 use Rattle.history.specs.Demand3.{fresh, row, Move, act, Event, eventBy, eventOf, event, Run, claims, retires, reclaims}
-use Rattle.history.specs.Fresh.{nothing, fresh-view, fresh-sized, fresh-heap, fresh-records, fresh-zone, fresh-count, fresh-tally, fresh-total, fresh-swing, fresh-claims, fresh-ranges, fresh-aims, fresh-waits}
+use Rattle.history.specs.Fresh.{nothing, fresh-view, fresh-sized, fresh-heap, fresh-records, fresh-zone, fresh-count, fresh-used, fresh-tally, fresh-total, fresh-swing, fresh-claims, fresh-ranges, fresh-aims, fresh-waits}
 use Rattle.history.specs.Told.{tells, Aims, Told, told}
 
 -- settings as document 02 may choose them, with a shard rule that stays among them
@@ -80,6 +81,7 @@ pub record InvAt (g : Settings) (v : View) (h : List Event) : Type 0 where
   pub records : RecordsIn v
   pub zone : ZoneIn v
   pub count : CountIn g v
+  pub used : UsedIn v
   pub tally : TallyIn v
   pub total : TotalIn v
   pub swing : SwingIn v
@@ -94,7 +96,7 @@ pub record Inv (g : Settings) (s : State) (h : List Event) : Type 0 where
 
 -- nothing happened
 quietly : (g : Settings) (v : View) (h : List Event) (e : Event) → e ≡ Event.quiet → InvAt g v h → InvAt g v (e ∷ h)
-quietly g v h e q I = subst (λ (x : Event). InvAt g v (x ∷ h)) (sym q) (record { lists = I .lists; heap = I .heap; records = I .records; zone = I .zone; count = I .count; tally = I .tally; total = I .total; swing = I .swing; claim = I .claim; ranges = I .ranges; aims = I .aims; ledger = λ n. let a = I .ledger n in omega arith })
+quietly g v h e q I = subst (λ (x : Event). InvAt g v (x ∷ h)) (sym q) (record { lists = I .lists; heap = I .heap; records = I .records; zone = I .zone; count = I .count; used = I .used; tally = I .tally; total = I .total; swing = I .swing; claim = I .claim; ranges = I .ranges; aims = I .aims; ledger = λ n. let a = I .ledger n in omega arith })
 
 -- an answer from 16 on is no event
 none-by : (t : ℕ) (p : Pc) (r : Row) (n : ℕ) → 16 ≤ n → eventBy t p r (answer n 0) ≡ Event.quiet
@@ -142,7 +144,8 @@ module _ (g : Settings) (C : Chosen g) (s : State) (h : List Event) (I : Inv g s
       heap = N .inv;
       records = record-place g v (A .records) t (inside t ht) p i l free;
       zone = zone-place g v (A .zone) t (inside t ht) p i l;
-      count = count-place g v (A .count) (A .zone) (long s) t (inside t ht) (l .early) p i l w;
+      count = count-place g v (A .count) (A .zone) (A .used .most) (long s) t (inside t ht) (l .early) p i l w;
+      used = used-place g v (A .used) (long s) t (inside t ht) (A .records) (A .zone) p i l;
       tally = tally-place g v (A .tally) (long s .rows) t (inside t ht) p i l;
       total = total-place g v (A .total) t (inside t ht) (l .early) p i;
       swing = swing-place g v (A .swing) t (inside t ht) (l .early) p i l;
@@ -167,7 +170,8 @@ module _ (g : Settings) (C : Chosen g) (s : State) (h : List Event) (I : Inv g s
           heap = heap-ends g (C .allowed) v (A .lists) (A .heap) t (inside t ht) n w;
           records = record-ends g v (A .records) t (inside t ht) n w;
           zone = zone-ends g v (A .zone) t (inside t ht) n w;
-          count = count-ends g v (A .count) (A .zone) (long s) t (inside t ht) hk n w;
+          count = count-ends g v (A .count) (A .zone) (A .used .most) (long s) t (inside t ht) hk n w;
+          used = used-ends g v (A .used) (long s) t (inside t ht) n w;
           tally = tally-ends g v (A .tally) (long s .rows) t (inside t ht) n w;
           total = total-ends g v (A .total) t (inside t ht) hk n;
           swing = swing-ends g v (A .swing) t (inside t ht) hk n;
@@ -247,7 +251,8 @@ module _ (g : Settings) (C : Chosen g) (s : State) (h : List Event) (I : Inv g s
           heap = heap-begin g (C .allowed) v (A .lists) (A .heap) t (inside t ht) q o a (long s .next) (C .shard);
           records = record-begin g v (A .records) t (inside t ht) q o a;
           zone = zone-begin g v (A .zone) t (inside t ht) m o a (long s .rows);
-          count = count-begin g v (A .count) (long s) t (inside t ht) m q o a (long s .rows);
+          count = count-begin g v (A .count) (A .used .most) (long s) t (inside t ht) m q o a (long s .rows);
+          used = used-begin g v (A .used) (long s) t (inside t ht) m q o a;
           tally = tally-begin g v (A .tally) (long s .rows) t (inside t ht) q o;
           total = total-begin g v (A .total) t (inside t ht) o;
           swing = swing-begin g v (A .swing) t (inside t ht) o;
@@ -265,7 +270,7 @@ module _ (g : Settings) (C : Chosen g) (s : State) (h : List Event) (I : Inv g s
 pub inv-fresh : (g : Settings) → Inv g fresh []
 inv-fresh g = record {
   sized = fresh-sized;
-  at = subst (λ (x : View). InvAt g x []) (sym fresh-view) (record { lists = _; heap = fresh-heap g; records = fresh-records; zone = fresh-zone; count = fresh-count g; tally = fresh-tally; total = fresh-total; swing = fresh-swing; claim = fresh-claims; ranges = fresh-ranges g; aims = fresh-aims; ledger = λ n. sym (zero-add (waits (nothing .nodes .state) n) ∙ fresh-waits n) });
+  at = subst (λ (x : View). InvAt g x []) (sym fresh-view) (record { lists = _; heap = fresh-heap g; records = fresh-records; zone = fresh-zone; count = fresh-count g; used = fresh-used; tally = fresh-tally; total = fresh-total; swing = fresh-swing; claim = fresh-claims; ranges = fresh-ranges g; aims = fresh-aims; ledger = λ n. sym (zero-add (waits (nothing .nodes .state) n) ∙ fresh-waits n) });
 }
 
 -- every run meets the invariant

@@ -8,6 +8,7 @@ pub mod Hazards
 pub mod OnePlace
 pub mod Once
 pub mod Bound
+pub mod Counted
 pub mod Whole
 pub mod Undamaged
 pub mod Proved

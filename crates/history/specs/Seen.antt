@@ -6,9 +6,10 @@ use native.Mathlib.Decide.{decLt}
 use native.Mathlib.Omega.{arith}
 use lib.ListN.{length, getD, List·getD-eq-default}
 use borrow.Author.Tests.{lt-ltb, ne-eqb}
-use Rattle.rules.specs.Sizes.{records, nodes}
+use Rattle.rules.specs.Sizes.{records, nodes, threads}
 use Rattle.rules.specs.Cells.{address}
 use Rattle.rules.specs.Step.{State, fetched}
+use Rattle.rules.specs.declared.Row.{Row}
 use Rattle.rules.specs.declared.Named.the-variants as cell
 use Rattle.lists.specs.Occ.{eq01, eq01-other, sum}
 use Rattle.lists.specs.Tab.{tab, tab-ext, tab-get}
@@ -17,8 +18,10 @@ use Rattle.view.specs.View.{viewOf, rowsIn, guardsIn}
 use Rattle.view.specs.Field.{IsId}
 use Rattle.view.specs.Long.{long}
 use Rattle.view.specs.Written.{fetched-view}
+use Rattle.view.specs.Turn.{rowIn, row-view}
+use Rattle.records.specs.Hold
 use Rattle.balance.specs.Balance
-use Rattle.history.specs.Demand3.{holds, waits, waiting}
+use Rattle.history.specs.Demand3.{holds, AllIdle, used, waits, waiting}
 
 sum-tab : {A B : Type 0} (F : A → ℕ) (G : B → ℕ) (n : ℕ) (f : ℕ → A) (g : ℕ → B) → ((i : ℕ) → i < n → F (f i) ≡ G (g i)) → sum F (tab n f) ≡ sum G (tab n g)
 unfolding tab
@@ -59,6 +62,17 @@ module _ (s : State) where
       by-id records (viewOf s .records .hazard) (λ c. holds s (cell.Hazard c)) (long s .hazard) refl refl (λ i h. rw (ne-eqb i 0 (omega arith), lt-ltb records i h) refl)
       (λ i h. fetched-view (s .cells) (rowsIn (s .rows32) (s .rows64)) (guardsIn (s .guards)) (cell.Hazard i) h)
 
+  pub mark-is : holds s cell.Shutdown ≡ viewOf s .heads .mark
+  unfolding viewOf fetched address
+  mark-is = refl
+
+  pub used-is : used s ≡ sum Hold.used (viewOf s .records .holder)
+  unfolding viewOf
+  used-is =
+      let e = sum-tab (λ (c : ℕ). Hold.used (holds s (cell.Holder c))) Hold.used records suc (λ i. getD (s .cells .records) (i * 4 + 3) 0)
+      (λ i q. ap Hold.used (fetched-view (s .cells) (rowsIn (s .rows32) (s .rows64)) (guardsIn (s .guards)) (cell.Holder (suc i)) (omega arith, omega arith) ∙ tab-get records (λ i. getD (s .cells .records) (i * 4 + 3) 0) i 0 q)) in
+      omega arith
+
   pub waits-is : (n : ℕ) → waits s n ≡ Heap.waits (viewOf s .nodes .state) n
   waits-is n = ap (λ (x : ℕ). eq01 x 2) (state-is n)
 
@@ -67,3 +81,6 @@ module _ (s : State) where
   waiting-is =
       let e = sum-tab (waits s) (λ (x : ℕ). eq01 x 2) nodes suc (λ i. getD (s .cells .nodes) (i * 2 + 1) 0) (λ i q. waits-is (suc i) ∙ ap (λ (x : ℕ). eq01 x 2) (tab-get nodes (λ i. getD (s .cells .nodes) (i * 2 + 1) 0) i 0 q)) in
       let z = eq01-other 0 2 (omega arith) in omega arith
+
+  pub all-idle : AllIdle s → (u : ℕ) → u < length (viewOf s .rows) → rowIn (viewOf s) u .place ≡ 0
+  all-idle q u hu = let hu′ : u < threads = rw (long s .rows) at hu in ap (λ (r : Row). r .place) (row-view s u hu′) ∙ q u hu′

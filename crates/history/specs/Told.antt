@@ -31,8 +31,7 @@ use Rattle.view.specs.Rest.{all-passed, all-checked, all-emptied, all-from, all
 use Rattle.view.specs.Long.{Long}
 use Rattle.view.specs.Turn.{rowIn, Look, swap-free}
 use Rattle.claims.specs.ClaimStep.{marks}
-use Rattle.history.specs.Demand3
-use Rattle.history.specs.Demand3.{Event, eventBy, aim, claims, retires, reclaims}
+use Rattle.history.specs.Demand3.{Event, eventBy, aim, claims, overwrites, retires, reclaims}
 
 -- what the step tells that is taken at p with the effect e
 abbrev pub tells : View → ℕ → Pc → Effect → Event
@@ -44,7 +43,7 @@ Aims h u x = x .place ≡ code Pc.V2 → aim u h ≡ x .rec
 
 -- a hazard that changes is told, and no other thread's last store is another
 pub record Heard (v : View) (t : ℕ) (h : List Event) (p : Pc) (e : Effect) : Type 0 where
-  pub changes : (c : ℕ) → getD (applies t (named (accesses p (rowIn v t))) e v .records .hazard) c 0 ≢ getD (v .records .hazard) c 0 → Demand3.stores c (tells v t p e) ≡ 1
+  pub changes : (c : ℕ) → getD (applies t (named (accesses p (rowIn v t))) e v .records .hazard) c 0 ≢ getD (v .records .hazard) c 0 → overwrites c (tells v t p e) ≡ 1
   pub others : (u : ℕ) → u ≢ t → aim u (tells v t p e ∷ h) ≡ aim u h
 
 pub record Told (v : View) (t : ℕ) (h : List Event) (p : Pc) (e : Effect) : Type 0 where

@@ -1,4 +1,4 @@
--- Demand 3, corollaries: on the tables of a run the test for 16 passes, and the steps counted, the record count, `nbulk_reclaims`, `count` and the totals do not wrap.
+-- Demand 3, corollaries: on the tables of a run the test for 16 passes, and the steps counted, `nbulk_reclaims`, `count` and the totals do not wrap.
 use mathlib.Core.Path.{_≡_}
 use mathlib.Core.Logic.{_⊎_}
 use mathlib.Core.Bool.{true}
@@ -27,9 +27,6 @@ module _ (g : Settings) (C : Chosen g) {s : State} {h : List Event} (run : Run g
 
   pub ticks-below : viewOf s .counters .ticks ≤ steps
   ticks-below = inv-run g C run .at .count .early
-
-  pub records-below : viewOf s .counters .recordCount ≤ viewOf s .counters .ticks
-  records-below = inv-run g C run .at .count .slow
 
   -- `nbulk_reclaims` is the number of threads between B1 and C3
   pub bulk-is : viewOf s .counters .bulkReclaims ≡ sum inside (viewOf s .rows)

@@ -39,6 +39,19 @@ use Rattle.records.specs.Hold
 use Rattle.records.specs.Hold.{Hold, hold, hasOf, has, lockOf, lock, offOf, off, KnowOf, Know, RecordsAt, RecordsIn}
 use Rattle.records.specs.RecordMoves
 
+-- the row that N1 takes is unused
+pub untaken-free : {g : Settings} {v : View} {t : ℕ} {r : Row} {i : Seen} → Look g v t Pc.N1 r i → eqb (i .untaken) 0 ≡ false → IsId records (i .untaken) × (getD (v .records .holder) (i .untaken) 0 ≡ 0)
+untaken-free {v = v} {i = i} l q0 = (id, go (l .lowest (eqb-false (i .untaken) 0 q0)))
+  where
+    id : IsId records (i .untaken)
+    id = subst (λ (b : Bool). InTable (pick b cell.Nothing (cell.Holder (i .untaken)))) q0 (l .beyond)
+
+    go : (getD (v .records .holder) (i .untaken) 0 ≡ 0) ⊎ (threads + 1 < getD (v .records .holder) (i .untaken) 0) → getD (v .records .holder) (i .untaken) 0 ≡ 0
+    go (inl e) = e
+    go (inr e) =
+        absurd (let y : i .y ≡ getD (v .records .holder) (i .untaken) 0 = subst (λ (b : Bool). i .y ≡ get (pick b cell.Nothing (cell.Holder (i .untaken))) v) q0 (l .y) in
+        let f : i .y ≤ threads + 1 = subst (λ (b : Bool). InTable (pick b cell.Nothing (cell.Holder (i .untaken))) → i .y ≤ limit (pick b cell.Nothing (cell.Holder (i .untaken)))) q0 (λ _. l .fit) id in omega arith)
+
 module _ (g : Settings) (v : View) (I : RecordsIn v) (t : ℕ) (ht : t < length (v .rows)) where
   abbrev r : Row
   r = rowIn v t
@@ -136,14 +149,10 @@ module _ (g : Settings) (v : View) (I : RecordsIn v) (t : ℕ) (ht : t < length 
       x = goTo Pc.N2 (Rows.withRec u (Rows.withNext (i .v) r))
 
       id : IsId records u
-      id = subst (λ (b : Bool). InTable (pick b cell.Nothing (cell.Holder u))) q0 (l .beyond)
+      id = untaken-free l q0 .0
 
       is0 : getD ho u 0 ≡ 0
-      is0 = go (l .lowest (eqb-false u 0 q0))
-        where
-          go : (getD ho u 0 ≡ 0) ⊎ (threads + 1 < getD ho u 0) → getD ho u 0 ≡ 0
-          go (inl e) = e
-          go (inr e) = absurd (let y : i .y ≡ getD ho u 0 = subst (λ (b : Bool). i .y ≡ get (pick b cell.Nothing (cell.Holder u)) v) q0 (l .y) in let f : i .y ≤ threads + 1 = subst (λ (b : Bool). InTable (pick b cell.Nothing (cell.Holder u)) → i .y ≤ limit (pick b cell.Nothing (cell.Holder u))) q0 (λ _. l .fit) id in omega arith)
+      is0 = untaken-free l q0 .1
 
       h0 : (n : ℕ) → has n r ≡ 0
       h0 = has-is Pc.N1 r (l .place)
