@@ -29,7 +29,7 @@ use Rattle.balance.specs.Swing.{SwingIn, swing, size-0}
 use Rattle.claims.specs.Claim.{ClaimsIn, Val, Safe}
 use Rattle.ranges.specs.Range.{Below, Fit, Ranges}
 use Rattle.history.specs.Demand3.{fresh}
-use Rattle.history.specs.Told.{Aims}
+use Rattle.history.specs.Heard.{Aims}
 
 abbrev none : ℕ → List ℕ
 none n = replicate n 0

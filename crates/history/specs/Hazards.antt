@@ -12,16 +12,14 @@ use Rattle.rules.specs.declared.Operation.{Operation}
 use Rattle.rules.specs.declared.Row.{Row}
 use Rattle.view.specs.Every.{pc-is, every-start, two}
 use Rattle.view.specs.View.{View, viewOf, enters}
-use Rattle.view.specs.Given.{guard-words}
 use Rattle.view.specs.Long.{long}
 use Rattle.view.specs.Turn
 use Rattle.view.specs.Turn.{Turn, row-view, step-turn}
 use Rattle.view.specs.Begin
 use Rattle.view.specs.Begin.{Begin, start-begin}
-use Rattle.claims.specs.ClaimStep.{reclaim-waits}
 use Rattle.history.specs.Demand3.{row, Move, act, event, eventBy, Event, Run, claims, overwrites, Hazards}
 use Rattle.history.specs.Seen.{hazard-is}
-use Rattle.history.specs.Told.{told}
+use Rattle.history.specs.Heard.{heard}
 use Rattle.history.specs.Invariant.{Chosen, Inv, inv-run}
 
 module _ (g : Settings) (C : Chosen g) (s : State) (h : List Event) (run : Run g s h) (c : ℕ) where
@@ -43,9 +41,7 @@ module _ (g : Settings) (C : Chosen g) (s : State) (h : List Event) (run : Run g
   of-step t o (Turn.stops n k w hk ht a e z d) ne = absurd (ne (ap (λ (x : View). getD (x .records .hazard) c 0) e))
   of-step t o (Turn.takes p i ht l a e z) ne =
       let hr : t < length (v .rows) = rw (long s .rows) ht in
-      let w = reclaim-waits g v (I .at .lists) (I .at .heap) (I .at .records) (I .at .zone) (claims h) (I .at .claim) (long s) t hr (guard-words s (I .sized) t ht) in
-      let T = told g v (long s) t hr h (I .at .aims) p i l w in
-      subst (λ (x : Row). overwrites c (eventBy t (pcOf (x .place)) x (o .answer)) ≡ 1) (row-view s t ht) (rw (pc-is p (l .place), a) (T .heard .changes c (λ q. ne (ap (λ (x : View). getD (x .records .hazard) c 0) e ∙ q))))
+      subst (λ (x : Row). overwrites c (eventBy t (pcOf (x .place)) x (o .answer)) ≡ 1) (row-view s t ht) (rw (pc-is p (l .place), a) (heard g v t hr h (I .at .aims) p i (l .place) .changes c (λ q. ne (ap (λ (x : View). getD (x .records .hazard) c 0) e ∙ q))))
 
   started : (t : ℕ) (o : Operation) → enters t (begins g o) v .records .hazard ≡ v .records .hazard
   unfolding begins

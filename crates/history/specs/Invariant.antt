@@ -54,7 +54,8 @@ use Rattle.ranges.specs.RangeStep.{range-place, range-ends, range-begin}
 use Rattle.claims.specs.ClaimStep.{claim-place, claim-ends, claim-begin, reclaim-waits}
 use Rattle.history.specs.Demand3.{fresh, row, Move, act, Event, eventBy, eventOf, event, Run, claims, retires, reclaims}
 use Rattle.history.specs.Fresh.{nothing, fresh-view, fresh-sized, fresh-heap, fresh-records, fresh-zone, fresh-count, fresh-used, fresh-tally, fresh-total, fresh-swing, fresh-claims, fresh-ranges, fresh-aims, fresh-waits}
-use Rattle.history.specs.Told.{tells, Aims, Told, told}
+use Rattle.history.specs.Heard.{tells, Aims, heard}
+use Rattle.history.specs.Told.{Told, told}
 
 -- settings as document 02 may choose them, with a shard rule that stays among them
 pub record Chosen (g : Settings) : Type 0 where
@@ -136,7 +137,7 @@ module _ (g : Settings) (C : Chosen g) (s : State) (h : List Event) (I : Inv g s
     w = reclaim-waits g v (A .lists) (A .heap) (A .records) (A .zone) (claims h) (A .claim) (long s) t (inside t ht) gw
 
     T : Told v t h p (does g p r i)
-    T = told g v (long s) t (inside t ht) h (A .aims) p i l w
+    T = told g v (long s) t h (A .aims t (inside t ht)) p i l w
 
     taken : InvAt g v′ (tells v t p (does g p r i) ∷ h)
     taken = record {
@@ -151,7 +152,7 @@ module _ (g : Settings) (C : Chosen g) (s : State) (h : List Event) (I : Inv g s
       swing = swing-place g v (A .swing) t (inside t ht) (l .early) p i l;
       claim = subst (λ (c : List ℕ). ClaimsIn v′ c (N .lists)) (sym (T .claim)) (claim-place g v (A .lists) (A .heap) (A .records) (A .zone) (claims h) (A .claim) (long s) t (inside t ht) gw p i l N);
       ranges = range-place g (C .allowed) v (A .lists) (A .heap) (A .records) (claims h) (A .claim) (A .ranges) (long s .rows) t ht p i l;
-      aims = T .aims;
+      aims = heard g v t (inside t ht) h (A .aims) p i (l .place) .aims;
       ledger = λ n. let a = A .ledger n in let b = T .waiting n in let c = T .retire n in omega arith;
     }
 

@@ -1,5 +1,6 @@
 pub mod Demand3
 pub mod Seen
+pub mod Heard
 pub mod Told
 pub mod Fresh
 pub mod Invariant

@@ -34,7 +34,7 @@ module _ (g : Settings) (C : Chosen g) {s : State} {h : List Event} (run : Run g
       let hr : t < length (v .rows) = rw (long s .rows) ht in
       let gw = guard-words s (I .sized) t ht in
       let w = reclaim-waits g v (I .at .lists) (I .at .heap) (I .at .records) (I .at .zone) (claims h) (I .at .claim) (long s) t hr gw in
-      let T = told g v (long s) t hr h (I .at .aims) p i l w in
+      let T = told g v (long s) t h (I .at .aims t hr) p i l w in
       let f = T .frees (sym (ap (λ (x : Answer). x .number) a) ∙ four) in
       let val : o .answer .value ≡ rowIn v t .reclaimable = ap (λ (x : Answer). x .value) a ∙ f .0 in
       λ q. unclaimed g v (I .at .lists) (I .at .heap) (I .at .records) (I .at .zone) (claims h) (I .at .claim) (long s) t hr gw (rowIn v t .reclaimable) c refl (f .1) (record { is = q ∙ val; some = f .1 })
