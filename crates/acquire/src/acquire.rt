@@ -3,6 +3,7 @@ ghost use mathlib.Core.Path.{_≡_};
 ghost use Rattle.rules.specs.Sizes.{base};
 ghost use Rattle.rules.specs.Pc;
 ghost use Rattle.rules.specs.Places.{does};
+use effects::damaged;
 use effects::ends;
 use effects::ends_links;
 use effects::ends_puts_links;
@@ -38,6 +39,9 @@ pub fn a2(r: Row, i: Seen) -> Effect
     ensures { λ e. ⌜ e ≡ does base Pc.A2 r i ⌝ }
 {
     let mut s = r;
+    if r.rec == 0 {
+        return damaged(r);
+    }
     let old = r.rec as u64 * 2;
     if i.v as u64 == old {
         if i.flag {

@@ -60,6 +60,9 @@ pub fn p3(r: Row, i: Seen) -> Effect
     ensures { λ e. ⌜ e ≡ does base Pc.P3 r i ⌝ }
 {
     let mut s = r;
+    if r.rec == 0 {
+        return damaged(r);
+    }
     if i.v as u64 == r.next as u64 * 2 {
         if i.flag {
             s.place = place::P1;

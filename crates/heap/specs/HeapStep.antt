@@ -379,7 +379,8 @@ module _ (g : Settings) (A : Allowed g) (v : View) (ls : List (List ℕ)) (I : H
           still (goes (emptied x) (z .hooks ∙ e) (z .unreclaimed ∙ f) (z .tail ∙ h) (z .lone ∙ k) (z .shape))
 
   kPush2 : (i : Seen) → Look g v t Pc.Push2 r i → At (λ (p : Pc) (e : Effect). K p i e) Pc.Push2 (does g Pc.Push2 r i)
-  kPush2 i l = thus (pick-case (K Pc.Push2 i) (eqb (i .v) (r .seen)) _ _ (λ e. pick-all (K Pc.Push2 i) (i .flag) _ _ lost (won (eqb-true (i .v) (r .seen) e))) (λ _. lost))
+  kPush2 i l = thus (pick-case (K Pc.Push2 i) (eqb (r .unreclaimed) 0) _ _ (λ e. absurd (c .keep (eqb-true (r .unreclaimed) 0 e)))
+      (λ _. pick-case (K Pc.Push2 i) (eqb (i .v) (r .seen)) _ _ (λ e. pick-all (K Pc.Push2 i) (i .flag) _ _ lost (won (eqb-true (i .v) (r .seen) e))) (λ _. lost)))
     where
       c : ShapeOf g Stage.pushes r
       c = shape Pc.Push2 (l .place)

@@ -32,7 +32,7 @@ use Rattle.records.specs.Hold.{Hold, hold, lockOf, lock, KnowOf, RecordsIn}
 use Rattle.claims.specs.Claim.{ClaimsIn, SafeOf, scan}
 use Rattle.ranges.specs.Range.{Words, Below, below-idle, Ranges, applied, entered}
 use Rattle.ranges.specs.Names.{Knows, Known, holds, reach, beyond}
-use Rattle.ranges.specs.Right.{right}
+use Rattle.ranges.specs.Right.{fine, right}
 use Rattle.ranges.specs.Tests.{in-range}
 
 -- ---- `head_available` is not the lock bit alone: who has the lock saw a record there
@@ -90,15 +90,15 @@ module _ (g : Settings) (A : Allowed g) (v : View) (ls : List (List ℕ)) (H : H
     whole nz = let K = known nz in record {
       reach = reach g v t r K;
       beyond = beyond g v t r K;
-      also = λ p i l. right g v t r K p i l .writes .also;
-      fine = λ p i l. right g v t r K p i l .writes .fine;
+      also = λ p i l. right g v t r K p i l .also;
+      fine = fine g v t r K;
     }
 
     pub range-place : (p : Pc) (i : Seen) → Look g v t p r i → Ranges g (applies t (named (accesses p r)) (does g p r i) v)
     range-place p i l =
         let nz : r .place ≢ 0 = λ e. let q : 29 < 16 = subst (λ (q : Pc). does g q r i .number < 16) (sym (is p (l .place)) ∙ ap pcOf e) (l .low) in omega arith in
         let k = right g v t r (known nz) p i (seen-of l) in
-        applied g v t (named (accesses p r)) (does g p r i) inside (k .writes .put) (k .writes .to) (k .row) I
+        applied g v t (named (accesses p r)) (does g p r i) inside (k .put) (k .to) (k .row) I
 
     pub range-ends : (n : ℕ) → Ranges g (applies t cell.Nothing (ends n) v)
     range-ends n = applied g v t cell.Nothing (ends n) inside (omega arith) (omega arith) (record { words = omega arith; stolen = below-idle }) I

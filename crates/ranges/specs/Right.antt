@@ -1,10 +1,10 @@
 -- A step's effect, place by place: what it writes is in range, the row that it leaves too, the cell that it writes besides is one, and its answer is not 16 or 29.
 use Prim.Native.Nat.{ℕ, _+_, _*_, _-_, _/_, _%_, _^_, _≤_, zero-le}
 use mathlib.Core.Path.{_≡_, subst}
-use mathlib.Core.Bool.{Bool, false}
+use mathlib.Core.Bool.{Bool, true, false}
 use native.Mathlib.Omega.{arith}
 use lib.Dec.{eqb, ltb}
-use borrow.Author.Tests.{eqb-false, ltb-false, le-ltb}
+use borrow.Author.Tests.{eqb-true, eqb-false, ltb-false, le-ltb}
 use Rattle.base.specs.Pick.{pick}
 use Rattle.rules.specs.Sizes.{records, sources, nodes, threads, Settings}
 use Rattle.rules.specs.Words.{withLock}
@@ -32,28 +32,58 @@ use Rattle.records.specs.Hold.{Hold, hold}
 use Rattle.ranges.specs.Range.{uses, Words, Below, below-set, below-idle, Fit}
 use Rattle.ranges.specs.Names.{Knows, Known}
 
-pub record Writes (c : Named) (e : Effect) : Type 0 where
+pub record Right (g : Settings) (c : Named) (e : Effect) : Type 0 where
   pub put : e .put ≤ limit c
   pub to : e .to ≤ limit (e .also)
   pub also : InTable (e .also)
-  pub fine : Fine (e .number)
-
-pub record Right (g : Settings) (c : Named) (e : Effect) : Type 0 where
-  pub writes : Writes c e
   pub row : Fit g (e .row)
 
 module _ (g : Settings) (v : View) (t : ℕ) (r : Row) (C : Known g v t r) where
-  abbrev K : Pc → Effect → Type 0
-  K p e = Right g (named (accesses p r)) e
-
   abbrev z : Fit g r
   z = C .fit
+
+  -- ---- what it answers
+  abbrev F : Pc → Effect → Type 0
+  F p e = Fine (e .number)
+
+  plain : {p : Pc} {e : Effect} → eqb (e .number) 16 ≡ false → eqb (e .number) 29 ≡ false → At F p e
+  plain {p} {e} m n = record { holds = (eqb-false (e .number) 16 m, eqb-false (e .number) 29 n) }
+
+  kIdle : (i : Seen) → Sees v t Pc.Idle r i → At F Pc.Idle (damaged r)
+  kIdle i l = absurd (C .inside (l .place))
+
+  kUnknown : (i : Seen) → Sees v t Pc.Unknown r i → At F Pc.Unknown (damaged r)
+  kUnknown i l = absurd (let a = z .words .place in let b = l .place in omega arith)
+
+  -- a released record has no `available_next`
+  kD2 : (i : Seen) → Sees v t Pc.D2 r i → Knows v t r Hold.clear → eqb (i .v) 0 ≡ false → At F Pc.D2 (damaged r)
+  kD2 i l k e = absurd (eqb-false (i .v) 0 e (let a = k .0 in let b = l .x in let c = l .v in omega arith))
+
+  -- the record that is taken or given back, and the kept list that is pushed, are there
+  kA2 : Knows v t r Hold.looks → eqb (r .rec) 0 ≡ true → At F Pc.A2 (damaged r)
+  kA2 k e = absurd (let a = eqb-true (r .rec) 0 e in omega arith)
+
+  kP3 : Knows v t r Hold.aims → eqb (r .rec) 0 ≡ true → At F Pc.P3 (damaged r)
+  kP3 k e = absurd (let a = eqb-true (r .rec) 0 e in let b = k .1 in omega arith)
+
+  kPush2 : ShapeOf g Stage.pushes r → eqb (r .unreclaimed) 0 ≡ true → At F Pc.Push2 (damaged r)
+  kPush2 k e = absurd (k .keep (eqb-true (r .unreclaimed) 0 e))
+
+  pub fine : (p : Pc) (i : Seen) → Sees v t p r i → Fine (does g p r i .number)
+  fine p i l =
+      every (λ (p : Pc). Sees v t p r i → Knows v t r (hold p) → ShapeOf g (stage p) r → At F p (does g p r i))
+      (search (two, either, plain, kIdle i, kUnknown i, kA2, kD2 i, kP3, kPush2) depth 16 fits 8000)
+      p l (C .know p (l .place)) (C .shape p (l .place)) .holds
+
+  -- ---- what it writes, and the row that it leaves
+  abbrev K : Pc → Effect → Type 0
+  K p e = Right g (named (accesses p r)) e
 
   fit : {x : Row} → Words g x → Below nodes (x .stolen) → Fit g x
   fit w s = record { words = w; stolen = s }
 
-  leaf : {p : Pc} {e : Effect} → e .put ≤ limit (named (accesses p r)) → e .to ≤ limit (e .also) → InTable (e .also) → eqb (e .number) 16 ≡ false → eqb (e .number) 29 ≡ false → Fit g (e .row) → At K p e
-  leaf {p} {e} a b c m n f = record { holds = record { writes = record { put = a; to = b; also = c; fine = (eqb-false (e .number) 16 m, eqb-false (e .number) 29 n) }; row = f } }
+  leaf : {p : Pc} {e : Effect} → e .put ≤ limit (named (accesses p r)) → e .to ≤ limit (e .also) → InTable (e .also) → Fit g (e .row) → At K p e
+  leaf a b c f = record { holds = record { put = a; to = b; also = c; row = f } }
 
   -- a row, word by word
   words : {x : Row} → ltb (code Pc.S3) (x .place) ≡ false → x .operation ≤ 12 → x .rec ≤ records → x .next ≤ records → x .source ≤ sources → uses (x .place) ≤ x .source → x .node ≤ nodes → x .seen ≤ nodes → x .shard ≤ g .shards - 1 → x .lone ≤ nodes → x .reclaimable ≤ nodes → x .unreclaimed ≤ nodes → x .tail ≤ nodes → x .unreclaimed ≤ nodes * x .tail → x .done ≤ 2 → Below nodes (x .stolen) → Fit g x
@@ -112,16 +142,6 @@ module _ (g : Settings) (v : View) (t : ℕ) (r : Row) (C : Known g v t r) where
       pick-case (Fit g) (eqb (shardIn x + 1) (g .shards)) _ _ (λ _. fit (omega arith) (f .stolen)) (λ e. let n = eqb-false (shardIn x + 1) (g .shards) e in fit (omega arith) (f .stolen))
 
   -- ---- what a place knows besides
-  kIdle : (i : Seen) → Sees v t Pc.Idle r i → At K Pc.Idle (damaged r)
-  kIdle i l = absurd (C .inside (l .place))
-
-  kUnknown : (i : Seen) → Sees v t Pc.Unknown r i → At K Pc.Unknown (damaged r)
-  kUnknown i l = absurd (let a = z .words .place in let b = l .place in omega arith)
-
-  -- a released record has no `available_next`
-  kD2 : (i : Seen) → Sees v t Pc.D2 r i → Knows v t r Hold.clear → eqb (i .v) 0 ≡ false → At K Pc.D2 (damaged r)
-  kD2 i l k e = absurd (eqb-false (i .v) 0 e (let a = k .0 in let b = l .x in let c = l .v in omega arith))
-
   record-in : Knows v t r Hold.clear → IsId records (r .rec)
   record-in k = k .1
 
@@ -153,5 +173,5 @@ module _ (g : Settings) (v : View) (t : ℕ) (r : Row) (C : Known g v t r) where
       let given : r .rec * 2 ≤ 2 * records + 1 = omega arith in
       let back : r .next * 2 ≤ 2 * records + 1 = omega arith in
       every (λ (p : Pc). Sees v t p r i → i .v ≤ limit (named (accesses p r)) → i .w ≤ limit (beside p r (i .untaken)) → InTable (named (accesses p r)) → Knows v t r (hold p) → ShapeOf g (stage p) r → uses (code p) ≤ r .source → At K p (does g p r i))
-      (search (two, either, leaf, tt, kIdle i, kUnknown i, kD2 i, taken i, taken-in i, record-in, put-in, lone-in, tail-in, next-shard, kept, z, w .operation, w .rec, w .next, w .source, w .sourced, w .node, w .seen, w .shard, w .lone, w .reclaimable, w .unreclaimed, w .tail, w .tailed, w .done, z .stolen, below-idle, stole, least, wraps, half, pick-all (Fit g), all-passed (Fit g) g, all-checked (Fit g) g, all-emptied (Fit g) g, fit-from, fit-examined, fit-reclaimed, fit-shut, words) depth 16 fits 8000)
+      (search (two, either, leaf, tt, taken i, taken-in i, record-in, put-in, lone-in, tail-in, next-shard, kept, z, w .operation, w .rec, w .next, w .source, w .sourced, w .node, w .seen, w .shard, w .lone, w .reclaimable, w .unreclaimed, w .tail, w .tailed, w .done, z .stolen, below-idle, stole, least, wraps, half, pick-all (Fit g), all-passed (Fit g) g, all-checked (Fit g) g, all-emptied (Fit g) g, fit-from, fit-examined, fit-reclaimed, fit-shut, words) depth 16 fits 8000)
       p l (saw l) (saws l) (l .reach) (C .know p (l .place)) (C .shape p (l .place)) (subst (λ (n : ℕ). uses n ≤ r .source) (l .place) (z .words .sourced)) .holds

@@ -3,13 +3,14 @@ ghost use mathlib.Core.Path.{_≡_};
 ghost use Rattle.rules.specs.Sizes.{base};
 ghost use Rattle.rules.specs.Pc;
 ghost use Rattle.rules.specs.Places.{does};
-ghost use Rattle.rules.specs.Places.{becomes, stores, answers, clearsGuards, guarding, weak, also};
+ghost use Rattle.rules.specs.Places.{becomes, stores, answers, clearsGuards, damaged, guarding, weak, also};
 ghost use Rattle.rules.specs.Rows.{goTo, inShard, withRec, idle, seeing};
 ghost use Rattle.rules.specs.Words.{less};
 ghost use Rattle.base.specs.Pick.{pick};
 ghost use lib.Dec.{eqb};
 ghost use Rattle.rules.specs.declared.Named.the-variants as cell;
 use effects::clears_guards;
+use effects::damaged;
 use effects::ends;
 use effects::ends_puts;
 use effects::guarding;
@@ -202,9 +203,12 @@ pub fn push1(r: Row, i: Seen) -> Effect
 }
 
 fn push2_by(r: Row, i: Seen, on: Row) -> Effect
-    ensures { λ e. ⌜ e ≡ weak (i .v) (r .seen) (i .flag) (stores (r .unreclaimed) (also (cell.NodeNext (r .tail)) (r .seen) (becomes on))) (also (cell.NodeNext (r .tail)) (r .seen) (becomes (seeing (i .v) r))) ⌝ }
+    ensures { λ e. ⌜ e ≡ pick (eqb (r .unreclaimed) 0) (damaged r) (weak (i .v) (r .seen) (i .flag) (stores (r .unreclaimed) (also (cell.NodeNext (r .tail)) (r .seen) (becomes on))) (also (cell.NodeNext (r .tail)) (r .seen) (becomes (seeing (i .v) r)))) ⌝ }
 {
     let mut s = r;
+    if r.unreclaimed == 0 {
+        return damaged(r);
+    }
     if i.v == r.seen {
         if i.flag {
             s.seen = i.v;

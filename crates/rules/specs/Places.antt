@@ -125,7 +125,9 @@ rule Pc.Idle r = at (by.Load cell.Nothing) λ g i. damaged r
 rule Pc.A1 r = at (by.Load cell.HeadAvailable) λ g i.
     pick (locked (i .v)) (becomes r)
     (pick (eqb (i .v) 0) (becomes (goTo Pc.N1 r)) (becomes (goTo Pc.A2 (withRec (i .v / 2) r))))
-rule Pc.A2 r = at (by.Update cell.HeadAvailable) λ g i. weak (i .v) (r .rec * 2) (i .flag) (stores (withLock (r .rec * 2)) (becomes (goTo Pc.A3 r))) (becomes (goTo Pc.A1 r))
+rule Pc.A2 r = at (by.Update cell.HeadAvailable) λ g i.
+    pick (eqb (r .rec) 0) (damaged r)
+    (weak (i .v) (r .rec * 2) (i .flag) (stores (withLock (r .rec * 2)) (becomes (goTo Pc.A3 r))) (becomes (goTo Pc.A1 r)))
 rule Pc.A3 r = at (by.Load (cell.AvailableNext (r .rec))) λ g i. becomes (goTo Pc.A4 (withNext (i .v) r))
 rule Pc.A4 r = at (by.Store cell.HeadAvailable) λ g i. stores (r .next * 2) (becomes (goTo Pc.A5 r))
 rule Pc.A5 r = at (by.Store (cell.AvailableNext (r .rec))) λ g i. stores 0 (becomes (goTo Pc.A6 r))
@@ -143,7 +145,9 @@ rule Pc.D1 r = at (by.HazardStore (cell.Hazard (r .rec))) λ g i. stores 0 (beco
 rule Pc.D2 r = at (by.Load (cell.AvailableNext (r .rec))) λ g i. pick (eqb (i .v) 0) (becomes (goTo Pc.P1 r)) (damaged r)
 rule Pc.P1 r = at (by.Load cell.HeadAvailable) λ g i. pick (locked (i .v)) (becomes r) (becomes (goTo Pc.P2 (withNext (i .v / 2) r)))
 rule Pc.P2 r = at (by.Store (cell.AvailableNext (r .rec))) λ g i. stores (r .next) (becomes (goTo Pc.P3 r))
-rule Pc.P3 r = at (by.Update cell.HeadAvailable) λ g i. weak (i .v) (r .next * 2) (i .flag) (stores (r .rec * 2) (done 0)) (becomes (goTo Pc.P1 r))
+rule Pc.P3 r = at (by.Update cell.HeadAvailable) λ g i.
+    pick (eqb (r .rec) 0) (damaged r)
+    (weak (i .v) (r .next * 2) (i .flag) (stores (r .rec * 2) (done 0)) (becomes (goTo Pc.P1 r)))
 -- protect (operation 3) and the tries
 rule Pc.V0 r = at (by.Load (cell.Source (r .source))) λ g i. becomes (goTo Pc.V1 (withNode (i .v) r))
 rule Pc.V1 r = at (by.HazardStore (cell.Hazard (r .rec))) λ g i. stores (r .node) (becomes (goTo Pc.V2 r))
@@ -189,9 +193,10 @@ rule Pc.Empty r = at (by.Load (cell.ShardHead (r .shard))) λ g i.
     (becomes (emptied (withDone 1 r)))
 rule Pc.Push1 r = at (by.Load (cell.ShardHead 0)) λ g i. becomes (goTo Pc.Push2 (seeing (i .v) r))
 rule Pc.Push2 r = at (by.Update (cell.ShardHead 0)) λ g i.
-    weak (i .v) (r .seen) (i .flag)
+    pick (eqb (r .unreclaimed) 0) (damaged r)
+    (weak (i .v) (r .seen) (i .flag)
     (stores (r .unreclaimed) (also (cell.NodeNext (r .tail)) (r .seen) (becomes (passed (keeping 0 0 r)))))
-    (also (cell.NodeNext (r .tail)) (r .seen) (becomes (seeing (i .v) r)))
+    (also (cell.NodeNext (r .tail)) (r .seen) (becomes (seeing (i .v) r))))
 rule Pc.C1 r = at (by.Update cell.Count) λ g i. stores (plus (i .x) (r .rcount)) (becomes (goTo Pc.K1 (taking 0 r)))
 rule Pc.C3 r = at (by.Update cell.BulkReclaims) λ g i. pick (eqb (r .operation) 11) (stores (less (i .x) 1) (becomes (goTo Pc.Wait r))) (stores (less (i .x) 1) (done (r .total)))
 rule Pc.Wait r = at (by.Load cell.BulkReclaims) λ g i. pick (eqb (i .x) 0) (done 0) (becomes r)

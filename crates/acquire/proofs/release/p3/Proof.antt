@@ -8,6 +8,8 @@ pub p3-spec : {M : Type 1} → statement M
 p3-spec =
     tie.close
     (tie.spec
+    (λ c κs. search needs)
+    (λ c. search cases)
     (λ c. search needs)
     (λ c. search needs)
     (λ c. search needs)

@@ -8,6 +8,8 @@ pub push2-by-spec : {M : Type 1} → statement M
 push2-by-spec =
     tie.close
     (tie.spec
+    (λ c κs. search needs)
+    (λ c. search cases)
     (λ c. search needs)
     (λ c κs. search needs)
     (λ c. search cases)
