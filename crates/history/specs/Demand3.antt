@@ -85,12 +85,13 @@ storedIn t (cell.Source b) = quiet
 storedIn t (cell.NodeNext n) = quiet
 storedIn t (cell.NodeState n) = quiet
 
+-- a store always stores; whether another access does is not asked, as no hazard changes by one (statement 2)
 abbrev pub storedBy : ℕ → Access → Event
 storedBy t (by.Load c) = quiet
 storedBy t (by.Store c) = storedIn t c
 storedBy t (by.HazardStore c) = storedIn t c
-storedBy t (by.Update c) = storedIn t c
-storedBy t (by.Private c) = storedIn t c
+storedBy t (by.Update c) = quiet
+storedBy t (by.Private c) = quiet
 
 -- V0 to V3 are the places of protect, try and try_protect
 abbrev pub protecting : Pc → Bool
