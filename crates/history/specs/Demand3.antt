@@ -10,13 +10,13 @@ use mathlib.Core.List.{List, [], _∷_, _++_, map}
 use lib.ListN.{getD, set, replicate}
 use lib.Dec.{eqb, ltb, leb}
 use Rattle.base.specs.Pick.{pick, both}
-use Rattle.rules.specs.Sizes.{records, sources, nodes, threads, words, row32, row64, Settings}
+use Rattle.rules.specs.Sizes.{records, nodes, threads, words, row32, row64, counterCells, fromRows, Settings}
 use Rattle.rules.specs.Pc
 use Rattle.rules.specs.Pc.{Pc, code, pcOf}
 use Rattle.rules.specs.Cells.{address}
 use Rattle.rules.specs.Rows.{rowAt}
 use Rattle.rules.specs.Places.{accesses}
-use Rattle.rules.specs.Step.{State, Out, shared, state, fetched, stepOf}
+use Rattle.rules.specs.Step.{State, Out, lent, fetched, stepOf}
 use Rattle.rules.specs.Start.{startOf}
 use Rattle.rules.specs.declared.Operation.{Operation}
 use Rattle.rules.specs.declared.Operation.the-variants.{Acquire, Release, Protect, Try, TryProtect, Reset, Raw, Swap}
@@ -31,13 +31,11 @@ use Rattle.lists.specs.Occ.{eq01, occ, sum}
 use Rattle.lists.specs.Flat.{cat}
 use Rattle.lists.specs.Tab.{tab}
 
--- ---- a fresh domain: every cell, row and word is 0
+-- ---- a fresh domain: every word of the five tables is 0
 unfoldable pub fresh : State
 fresh =
-    state
-    (shared (replicate 11 0) (replicate 5 0)
-    (replicate (4 * records) 0) (replicate sources 0) (replicate (2 * nodes) 0))
-    (replicate (row32 * threads) 0) (replicate (row64 * threads) 0) (replicate (words * threads) 0)
+    lent (replicate (fromRows + row32 * threads) 0) (replicate nodes 0) (replicate nodes 0)
+    (replicate (counterCells + row64 * threads) 0) (replicate (words * threads) 0)
 
 abbrev pub row : State → ℕ → Row
 row s t = rowAt (s .rows32) (s .rows64) t

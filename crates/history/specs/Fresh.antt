@@ -1,13 +1,13 @@
 -- A fresh domain meets every layer of the invariant.
-use Prim.Native.Nat.{ℕ, zero, suc, _+_, _*_, _≤_}
+use Prim.Native.Nat.{ℕ, zero, suc, _+_, _*_, _-_, _≤_}
 use mathlib.Core.Path.{_≡_, refl, sym, ap, _∙_, subst, subst₂}
 use mathlib.Core.Logic.{inl}
 use mathlib.Core.List.{List, [], _∷_, map}
 use native.Mathlib.Omega.{arith}
-use lib.ListN.{getD, replicate, length-replicate}
-use Rattle.rules.specs.Sizes.{records, sources, nodes, threads, words, row32, row64, Settings}
+use lib.ListN.{getD, take, drop, replicate, length-replicate}
+use Rattle.rules.specs.Sizes.{records, sources, nodes, threads, words, row32, row64, headCells, counterCells, fromSources, fromRecords, fromRows, Settings}
 use Rattle.rules.specs.Rows.{idle, rowAt}
-use Rattle.rules.specs.Step.{guardsOf}
+use Rattle.rules.specs.Step.{State, shared, state, part, lent, guardsOf}
 use Rattle.rules.specs.declared.Row.{Row}
 use Rattle.lists.specs.Occ.{occ, eq01, eq01-other, sum}
 use Rattle.lists.specs.Flat.{Rows}
@@ -59,27 +59,62 @@ row-none a b t = simp zeros
 rows-none : (n a b : ℕ) → tab n (λ t. rowAt (replicate a 0) (replicate b 0) t) ≡ replicate n idle
 rows-none n a b = tab-ext n (λ t. rowAt (replicate a 0) (replicate b 0) t) (λ t. idle) (λ t _. row-none a b t) ∙ tab-same n idle
 
-pub fresh-view : viewOf fresh ≡ nothing
-unfolding viewOf fresh
-fresh-view = λ i. record {
+-- its parts
+unfoldable bare : State
+bare =
+    state (shared (none headCells) (none counterCells) (none (4 * records)) (none sources) (none nodes) (none nodes)) (none (row32 * threads)) (none (row64 * threads)) (none (words * threads))
+
+drop-none : (b m : ℕ) → drop b (none m) ≡ none (m - b)
+drop-none zero m = ap none (let q : m ≡ m - 0 = omega arith in q)
+drop-none (suc b) zero = ap none (let q : 0 ≡ 0 - suc b = omega arith in q)
+drop-none (suc b) (suc m) = drop-none b m ∙ ap none (let q : m - b ≡ suc m - suc b = omega arith in q)
+
+take-none : (n m : ℕ) → n ≤ m → take n (none m) ≡ none n
+take-none zero m h = refl
+take-none (suc n) zero h = absurd (omega arith)
+take-none (suc n) (suc m) h = ap (λ (l : List ℕ). 0 ∷ l) (take-none n m (omega arith))
+
+part-none : (b n m : ℕ) → b + n ≤ m → part b n (none m) ≡ none n
+unfolding part
+part-none b n m h = ap (take n) (drop-none b m) ∙ take-none n (m - b) (omega arith)
+
+fresh-bare : fresh ≡ bare
+unfolding fresh bare lent
+fresh-bare = λ i. state (shared (part-none 0 headCells ids (omega arith) i) (part-none 0 counterCells sums (omega arith) i) (part-none fromRecords (4 * records) ids (omega arith) i) (part-none fromSources sources ids (omega arith) i) (none nodes) (none nodes)) (drop-none fromRows ids i) (drop-none counterCells sums i) (none (words * threads))
+  where
+    ids : ℕ
+    ids = fromRows + row32 * threads
+
+    sums : ℕ
+    sums = counterCells + row64 * threads
+
+bare-view : viewOf bare ≡ nothing
+unfolding viewOf bare
+bare-view = λ i. record {
   heads = record { recordHead = 0; headAvailable = 0; mark = 0; shards = shards-none shardHeads 11 i };
   counters = record { recordCount = 0; count = 0; dueTime = 0; bulkReclaims = 0; ticks = 0 };
   records = record { hazard = field-none 4 0 records (4 * records) i; availableNext = field-none 4 1 records (4 * records) i; next = field-none 4 2 records (4 * records) i; holder = field-none 4 3 records (4 * records) i };
   sources = field-none 1 0 sources sources i;
-  nodes = record { next = field-none 2 0 nodes (2 * nodes) i; state = field-none 2 1 nodes (2 * nodes) i };
+  nodes = record { next = field-none 1 0 nodes nodes i; state = field-none 1 0 nodes nodes i };
   rows = rows-none threads (row32 * threads) (row64 * threads) i;
   guards = tab threads (λ t. guardsOf (replicate (words * threads) 0) t);
 }
 
+pub fresh-view : viewOf fresh ≡ nothing
+fresh-view = ap viewOf fresh-bare ∙ bare-view
+
 -- ---- the layers
-pub fresh-sized : Sized fresh
-unfolding fresh
-fresh-sized = record {
-  cells = record { heads = length-replicate {A = ℕ} 11 0; counters = length-replicate {A = ℕ} 5 0; records = length-replicate {A = ℕ} (4 * records) 0; sources = length-replicate {A = ℕ} sources 0; nodes = length-replicate {A = ℕ} (2 * nodes) 0 };
+bare-sized : Sized bare
+unfolding bare
+bare-sized = record {
+  cells = record { heads = length-replicate {A = ℕ} 11 0; counters = length-replicate {A = ℕ} 5 0; records = length-replicate {A = ℕ} (4 * records) 0; sources = length-replicate {A = ℕ} sources 0; next = length-replicate {A = ℕ} nodes 0; state = length-replicate {A = ℕ} nodes 0 };
   rows32 = length-replicate {A = ℕ} (row32 * threads) 0;
   rows64 = length-replicate {A = ℕ} (row64 * threads) 0;
   guards = length-replicate {A = ℕ} (words * threads) 0;
 }
+
+pub fresh-sized : Sized fresh
+fresh-sized = subst Sized (sym fresh-bare) bare-sized
 
 abbrev pub places : ℕ
 places = 184

@@ -79,7 +79,7 @@ module _ (s : State) where
   pub waiting-is : waiting s ≡ Balance.waiting (viewOf s .nodes .state)
   unfolding viewOf
   waiting-is =
-      let e = sum-tab (waits s) (λ (x : ℕ). eq01 x 2) nodes suc (λ i. getD (s .cells .nodes) (i * 2 + 1) 0) (λ i q. waits-is (suc i) ∙ ap (λ (x : ℕ). eq01 x 2) (tab-get nodes (λ i. getD (s .cells .nodes) (i * 2 + 1) 0) i 0 q)) in
+      let e = sum-tab (waits s) (λ (x : ℕ). eq01 x 2) nodes suc (λ i. getD (s .cells .state) (i * 1 + 0) 0) (λ i q. waits-is (suc i) ∙ ap (λ (x : ℕ). eq01 x 2) (tab-get nodes (λ i. getD (s .cells .state) (i * 1 + 0) 0) i 0 q)) in
       let z = eq01-other 0 2 (omega arith) in omega arith
 
   pub all-idle : AllIdle s → (u : ℕ) → u < length (viewOf s .rows) → rowIn (viewOf s) u .place ≡ 0
