@@ -2,6 +2,7 @@ pub mod Sizes
 pub mod Words
 pub mod Pc
 pub mod Cells
+pub mod Field
 pub mod Rows
 pub mod Places
 pub mod Step

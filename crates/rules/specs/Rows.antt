@@ -7,6 +7,8 @@ use lib.Dec.{eqb, ltb}
 use Rattle.base.specs.Pick.{pick}
 use Rattle.rules.specs.Sizes.{records, sources, nodes, row32, row64, Settings}
 use Rattle.rules.specs.Words.{plus, less}
+use Rattle.rules.specs.Field
+use Rattle.rules.specs.Field.{Field, Field-discrete}
 use Rattle.rules.specs.Pc
 use Rattle.rules.specs.Pc.{Pc, code}
 use Rattle.rules.specs.declared.Row.{Row}
@@ -28,7 +30,9 @@ rowFrom l b m d =
       unreclaimed = getD l (b + 10) 0;
       tail = getD l (b + 11) 0;
       done = getD l (b + 12) 0;
-      stolen = getD l (b + 13) 0 ∷ getD l (b + 14) 0 ∷ getD l (b + 15) 0 ∷ getD l (b + 16) 0 ∷ getD l (b + 17) 0 ∷ getD l (b + 18) 0 ∷ getD l (b + 19) 0 ∷ getD l (b + 20) 0 ∷ [];
+      stolen =
+          getD l (b + 13) 0 ∷ getD l (b + 14) 0 ∷ getD l (b + 15) 0 ∷ getD l (b + 16) 0
+          ∷ getD l (b + 17) 0 ∷ getD l (b + 18) 0 ∷ getD l (b + 19) 0 ∷ getD l (b + 20) 0 ∷ [];
       count = getD m (d + 0) 0;
       rcount = getD m (d + 1) 0;
       total = getD m (d + 2) 0;
@@ -40,7 +44,10 @@ unfoldable pub rowAt : List ℕ → List ℕ → ℕ → Row
 rowAt l m t = rowFrom l (t * row32) m (t * row64)
 
 abbrev pub words32 : Row → List ℕ
-words32 r = r .place ∷ r .operation ∷ r .rec ∷ r .next ∷ r .source ∷ r .node ∷ r .seen ∷ r .shard ∷ r .lone ∷ r .reclaimable ∷ r .unreclaimed ∷ r .tail ∷ r .done ∷ getD (r .stolen) 0 0 ∷ getD (r .stolen) 1 0 ∷ getD (r .stolen) 2 0 ∷ getD (r .stolen) 3 0 ∷ getD (r .stolen) 4 0 ∷ getD (r .stolen) 5 0 ∷ getD (r .stolen) 6 0 ∷ getD (r .stolen) 7 0 ∷ []
+words32 r =
+    r .place ∷ r .operation ∷ r .rec ∷ r .next ∷ r .source ∷ r .node ∷ r .seen ∷ r .shard ∷ r .lone ∷ r .reclaimable
+    ∷ r .unreclaimed ∷ r .tail ∷ r .done ∷ getD (r .stolen) 0 0 ∷ getD (r .stolen) 1 0 ∷ getD (r .stolen) 2 0
+    ∷ getD (r .stolen) 3 0 ∷ getD (r .stolen) 4 0 ∷ getD (r .stolen) 5 0 ∷ getD (r .stolen) 6 0 ∷ getD (r .stolen) 7 0 ∷ []
 
 abbrev pub words64 : Row → List ℕ
 words64 r = r .count ∷ r .rcount ∷ r .total ∷ r .due ∷ r .clock ∷ []
@@ -72,59 +79,90 @@ rowFits g l t = within (rowMost g) l (t * row32) 0 row32
 
 -- ---- a row that changes
 abbrev pub idle : Row
-idle = record { place = 0; operation = 0; rec = 0; next = 0; source = 0; node = 0; seen = 0; shard = 0; lone = 0; reclaimable = 0; unreclaimed = 0; tail = 0; done = 0; stolen = 0 ∷ 0 ∷ 0 ∷ 0 ∷ 0 ∷ 0 ∷ 0 ∷ 0 ∷ []; count = 0; rcount = 0; total = 0; due = 0; clock = 0 }
+idle = rowFrom [] 0 [] 0
 
 -- the row's shard; a row whose shard is out of range answers 29 in any case
 abbrev pub shardIn : Row → ℕ
 shardIn r = r .shard % 8
 
+-- field f becomes v, the stolen heads become l, and every other field g stays as it was
+abbrev kept : Field → ℕ → Field → ℕ → ℕ
+kept f v g old = elim (Field-discrete f g) [ yes e ↦ v | no ne ↦ old ]
+
+abbrev changed : Field → ℕ → List ℕ → Row → Row
+changed f v l r =
+    record {
+      place = kept f v Field.Place (r .place);
+      operation = kept f v Field.Operation (r .operation);
+      rec = kept f v Field.Rec (r .rec);
+      next = kept f v Field.Next (r .next);
+      source = kept f v Field.Source (r .source);
+      node = kept f v Field.Node (r .node);
+      seen = kept f v Field.Seen (r .seen);
+      shard = kept f v Field.Shard (r .shard);
+      lone = kept f v Field.Lone (r .lone);
+      reclaimable = kept f v Field.Reclaimable (r .reclaimable);
+      unreclaimed = kept f v Field.Unreclaimed (r .unreclaimed);
+      tail = kept f v Field.Tail (r .tail);
+      done = kept f v Field.Done (r .done);
+      stolen = l;
+      count = kept f v Field.Count (r .count);
+      rcount = kept f v Field.Rcount (r .rcount);
+      total = kept f v Field.Total (r .total);
+      due = kept f v Field.Due (r .due);
+      clock = kept f v Field.Clock (r .clock);
+    }
+
+abbrev pub with : Field → ℕ → Row → Row
+with f v r = changed f v (r .stolen) r
+
 abbrev pub goTo : Pc → Row → Row
-goTo p r = record { place = code p; operation = r .operation; rec = r .rec; next = r .next; source = r .source; node = r .node; seen = r .seen; shard = r .shard; lone = r .lone; reclaimable = r .reclaimable; unreclaimed = r .unreclaimed; tail = r .tail; done = r .done; stolen = r .stolen; count = r .count; rcount = r .rcount; total = r .total; due = r .due; clock = r .clock }
+goTo p r = with Field.Place (code p) r
 
 abbrev pub withRec : ℕ → Row → Row
-withRec v r = record { place = r .place; operation = r .operation; rec = v; next = r .next; source = r .source; node = r .node; seen = r .seen; shard = r .shard; lone = r .lone; reclaimable = r .reclaimable; unreclaimed = r .unreclaimed; tail = r .tail; done = r .done; stolen = r .stolen; count = r .count; rcount = r .rcount; total = r .total; due = r .due; clock = r .clock }
+withRec v r = with Field.Rec v r
 
 abbrev pub withNext : ℕ → Row → Row
-withNext v r = record { place = r .place; operation = r .operation; rec = r .rec; next = v; source = r .source; node = r .node; seen = r .seen; shard = r .shard; lone = r .lone; reclaimable = r .reclaimable; unreclaimed = r .unreclaimed; tail = r .tail; done = r .done; stolen = r .stolen; count = r .count; rcount = r .rcount; total = r .total; due = r .due; clock = r .clock }
+withNext v r = with Field.Next v r
 
 abbrev pub withNode : ℕ → Row → Row
-withNode v r = record { place = r .place; operation = r .operation; rec = r .rec; next = r .next; source = r .source; node = v; seen = r .seen; shard = r .shard; lone = r .lone; reclaimable = r .reclaimable; unreclaimed = r .unreclaimed; tail = r .tail; done = r .done; stolen = r .stolen; count = r .count; rcount = r .rcount; total = r .total; due = r .due; clock = r .clock }
+withNode v r = with Field.Node v r
 
 abbrev pub seeing : ℕ → Row → Row
-seeing v r = record { place = r .place; operation = r .operation; rec = r .rec; next = r .next; source = r .source; node = r .node; seen = v; shard = r .shard; lone = r .lone; reclaimable = r .reclaimable; unreclaimed = r .unreclaimed; tail = r .tail; done = r .done; stolen = r .stolen; count = r .count; rcount = r .rcount; total = r .total; due = r .due; clock = r .clock }
+seeing v r = with Field.Seen v r
 
 abbrev pub inShard : ℕ → Row → Row
-inShard v r = record { place = r .place; operation = r .operation; rec = r .rec; next = r .next; source = r .source; node = r .node; seen = r .seen; shard = v; lone = r .lone; reclaimable = r .reclaimable; unreclaimed = r .unreclaimed; tail = r .tail; done = r .done; stolen = r .stolen; count = r .count; rcount = r .rcount; total = r .total; due = r .due; clock = r .clock }
+inShard v r = with Field.Shard v r
 
 abbrev pub withLone : ℕ → Row → Row
-withLone v r = record { place = r .place; operation = r .operation; rec = r .rec; next = r .next; source = r .source; node = r .node; seen = r .seen; shard = r .shard; lone = v; reclaimable = r .reclaimable; unreclaimed = r .unreclaimed; tail = r .tail; done = r .done; stolen = r .stolen; count = r .count; rcount = r .rcount; total = r .total; due = r .due; clock = r .clock }
+withLone v r = with Field.Lone v r
 
 abbrev pub reclaiming : ℕ → Row → Row
-reclaiming v r = record { place = r .place; operation = r .operation; rec = r .rec; next = r .next; source = r .source; node = r .node; seen = r .seen; shard = r .shard; lone = r .lone; reclaimable = v; unreclaimed = r .unreclaimed; tail = r .tail; done = r .done; stolen = r .stolen; count = r .count; rcount = r .rcount; total = r .total; due = r .due; clock = r .clock }
+reclaiming v r = with Field.Reclaimable v r
 
 -- the kept list from v to its last node z
 abbrev pub keeping : ℕ → ℕ → Row → Row
-keeping v z r = record { place = r .place; operation = r .operation; rec = r .rec; next = r .next; source = r .source; node = r .node; seen = r .seen; shard = r .shard; lone = r .lone; reclaimable = r .reclaimable; unreclaimed = v; tail = z; done = r .done; stolen = r .stolen; count = r .count; rcount = r .rcount; total = r .total; due = r .due; clock = r .clock }
+keeping v z r = with Field.Unreclaimed v (with Field.Tail z r)
 
 abbrev pub withDone : ℕ → Row → Row
-withDone v r = record { place = r .place; operation = r .operation; rec = r .rec; next = r .next; source = r .source; node = r .node; seen = r .seen; shard = r .shard; lone = r .lone; reclaimable = r .reclaimable; unreclaimed = r .unreclaimed; tail = r .tail; done = v; stolen = r .stolen; count = r .count; rcount = r .rcount; total = r .total; due = r .due; clock = r .clock }
+withDone v r = with Field.Done v r
 
 -- the list stolen from the row's shard is that from v on
 abbrev pub stealing : ℕ → Row → Row
-stealing v r = record { place = r .place; operation = r .operation; rec = r .rec; next = r .next; source = r .source; node = r .node; seen = r .seen; shard = r .shard; lone = r .lone; reclaimable = r .reclaimable; unreclaimed = r .unreclaimed; tail = r .tail; done = r .done; stolen = set (r .stolen) (shardIn r) v; count = r .count; rcount = r .rcount; total = r .total; due = r .due; clock = r .clock }
+stealing v r = changed Field.Shard (r .shard) (set (r .stolen) (shardIn r) v) r
 
 abbrev pub counting : ℕ → Row → Row
-counting v r = record { place = r .place; operation = r .operation; rec = r .rec; next = r .next; source = r .source; node = r .node; seen = r .seen; shard = r .shard; lone = r .lone; reclaimable = r .reclaimable; unreclaimed = r .unreclaimed; tail = r .tail; done = r .done; stolen = r .stolen; count = v; rcount = r .rcount; total = r .total; due = r .due; clock = r .clock }
+counting v r = with Field.Count v r
 
 abbrev pub taking : ℕ → Row → Row
-taking v r = record { place = r .place; operation = r .operation; rec = r .rec; next = r .next; source = r .source; node = r .node; seen = r .seen; shard = r .shard; lone = r .lone; reclaimable = r .reclaimable; unreclaimed = r .unreclaimed; tail = r .tail; done = r .done; stolen = r .stolen; count = r .count; rcount = v; total = r .total; due = r .due; clock = r .clock }
+taking v r = with Field.Rcount v r
 
 abbrev pub dated : ℕ → ℕ → Row → Row
-dated d c r = record { place = r .place; operation = r .operation; rec = r .rec; next = r .next; source = r .source; node = r .node; seen = r .seen; shard = r .shard; lone = r .lone; reclaimable = r .reclaimable; unreclaimed = r .unreclaimed; tail = r .tail; done = r .done; stolen = r .stolen; count = r .count; rcount = r .rcount; total = r .total; due = d; clock = c }
+dated d c r = with Field.Due d (with Field.Clock c r)
 
 -- one node more was reclaimed
 abbrev pub freed : Row → Row
-freed r = record { place = r .place; operation = r .operation; rec = r .rec; next = r .next; source = r .source; node = r .node; seen = r .seen; shard = r .shard; lone = r .lone; reclaimable = r .reclaimable; unreclaimed = r .unreclaimed; tail = r .tail; done = r .done; stolen = r .stolen; count = r .count; rcount = r .rcount; total = plus (r .total) 1; due = r .due; clock = r .clock }
+freed r = with Field.Total (plus (r .total) 1) r
 
 -- by a pass, which has one less of its rcount to give back
 abbrev pub freeing : Row → Row

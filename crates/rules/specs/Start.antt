@@ -1,7 +1,7 @@
 -- The starts: what each operation's start refuses, in document 01's order, and what it writes. A start takes no step.
 use Prim.Native.Nat.{ℕ, zero, suc, _+_, _*_, _%_, _^_}
 use mathlib.Core.Bool.{Bool, true, false}
-use mathlib.Core.List.{List, [], _∷_}
+use mathlib.Core.List.{List}
 use lib.ListN.{getD}
 use lib.Dec.{eqb, ltb}
 use Rattle.base.specs.Pick.{pick, both}
@@ -11,7 +11,8 @@ use Rattle.rules.specs.Pc
 use Rattle.rules.specs.Pc.{Pc, code}
 use Rattle.rules.specs.Cells
 use Rattle.rules.specs.Cells.{address}
-use Rattle.rules.specs.Rows.{stored32, stored64}
+use Rattle.rules.specs.Rows.{stored32, stored64, idle, with}
+use Rattle.rules.specs.Field
 use Rattle.rules.specs.Step.{State, state, Out, out, answer, refused, sizes, atIn, written}
 use Rattle.rules.specs.declared.Operation.{Operation}
 use Rattle.rules.specs.declared.Operation.the-variants.{Acquire, Release, Protect, Try, TryProtect, Reset, Raw, Swap, Retire, Eager, Cleanup, Shutdown}
@@ -95,7 +96,9 @@ refuseOf s t o =
 
 -- ---- what a start writes
 abbrev pub freshAt : ℕ → ℕ → ℕ → ℕ → ℕ → ℕ → ℕ → Row
-freshAt operation place rec source node lone shard = record { place = place; operation = operation; rec = rec; next = 0; source = source; node = node; seen = 0; shard = shard; lone = lone; reclaimable = 0; unreclaimed = 0; tail = 0; done = 0; stolen = 0 ∷ 0 ∷ 0 ∷ 0 ∷ 0 ∷ 0 ∷ 0 ∷ 0 ∷ []; count = 0; rcount = 0; total = 0; due = 0; clock = 0 }
+freshAt operation place rec source node lone shard =
+    with Field.Operation operation (with Field.Place place (with Field.Rec rec (with Field.Source source
+    (with Field.Node node (with Field.Lone lone (with Field.Shard shard idle))))))
 
 abbrev pub entry : Row → Named → ℕ → Entry
 entry r c v = record { row = r; cell = c; put = v }
