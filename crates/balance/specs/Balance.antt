@@ -15,7 +15,7 @@ use Rattle.rules.specs.Words.{plus, over, threshold}
 use Rattle.rules.specs.Pc
 use Rattle.rules.specs.Pc.{Pc, pcOf, code}
 use Rattle.rules.specs.Rows.{idle, shardIn, stolenFrom}
-use Rattle.rules.specs.Places.{checked, passed, emptied, examineFrom, examined, reclaimed}
+use Rattle.rules.specs.Places.{checked, passed, emptied, examineFrom, examined, afterFree}
 use Rattle.rules.specs.declared.Row.{Row}
 use Rattle.counts.specs.CountLaws.{over-plain, negative-not-over}
 use Rattle.lists.specs.Occ.{eq01, sum, sum-set}
@@ -124,8 +124,8 @@ module _ (g : Settings) where
   unfolding examined
   owes-examined n r e = pick-all (λ (x : Row). owes x ≡ r .rcount) (eqb n 0) _ _ (pick-all (λ (x : Row). owes x ≡ r .rcount) (eqb (r .reclaimable) 0) _ _ (owes-from (shardIn r + 1) r) refl) (owes-at Pc.Examine r e refl)
 
-  pub owes-reclaimed : (n : ℕ) (r : Row) → r .place ≡ code Pc.Reclaim → owes (reclaimed g n r) ≡ r .rcount
-  unfolding reclaimed
+  pub owes-reclaimed : (n : ℕ) (r : Row) → r .place ≡ code Pc.Reclaim → owes (afterFree g n r) ≡ r .rcount
+  unfolding afterFree
   owes-reclaimed n r e = pick-all (λ (x : Row). owes x ≡ r .rcount) (eqb n 0) _ _ (owes-from (shardIn r + 1) r) (owes-at Pc.Reclaim r e refl)
 
 -- ---- how the layer moves

@@ -15,7 +15,7 @@ use Rattle.rules.specs.Words.{plus, over}
 use Rattle.rules.specs.Pc
 use Rattle.rules.specs.Pc.{Pc, pcOf, code}
 use Rattle.rules.specs.Rows.{idle, goTo, taking, counting, freeing, reclaiming}
-use Rattle.rules.specs.Places.{accesses, does, ends, becomes, stores, checked, reclaimed}
+use Rattle.rules.specs.Places.{accesses, does, ends, becomes, stores, checked, afterFree}
 use Rattle.rules.specs.Start.{begins, narrow, freshAt}
 use Rattle.rules.specs.declared.Operation.{Operation}
 use Rattle.rules.specs.declared.Operation.the-variants.{Swap, Retire, Shutdown}
@@ -140,9 +140,9 @@ module _ (g : Settings) (v : View) (I : CountIn g v) (Z : ZoneIn v) (hn : v .cou
       let f = freed (r .reclaimable) (let a = lv .state in let b = l .reach in omega arith) (w nz) in
       let o = owes-reclaimed g (i .v) x (l .place) in
       let m = open′ Pc.Reclaim (l .place) (λ q. q) in
-      Balance.puts g mark st count n ticks rows I t ht hk (set st (r .reclaimable) 0) count (reclaimed g (i .v) x)
-      (λ z. Balance.balanced g mark st count n ticks rows I t ht hk (set st (r .reclaimable) 0) count (reclaimed g (i .v) x) ((r .rcount + (M - 1)) / M) 1 (let a = owes-is Pc.Reclaim (l .place) in omega arith) z)
-      (Balance.lower g mark st count n ticks rows I t ht hk (reclaimed g (i .v) x) (λ q. absurd (looks-is Pc.Reclaim (l .place) q))) (λ z. absurd (z m)) (I .fits))
+      Balance.puts g mark st count n ticks rows I t ht hk (set st (r .reclaimable) 0) count (afterFree g (i .v) x)
+      (λ z. Balance.balanced g mark st count n ticks rows I t ht hk (set st (r .reclaimable) 0) count (afterFree g (i .v) x) ((r .rcount + (M - 1)) / M) 1 (let a = owes-is Pc.Reclaim (l .place) in omega arith) z)
+      (Balance.lower g mark st count n ticks rows I t ht hk (afterFree g (i .v) x) (λ q. absurd (looks-is Pc.Reclaim (l .place) q))) (λ z. absurd (z m)) (I .fits))
 
   kS2 : (i : Seen) → Look g v t Pc.S2 r i → (r .reclaimable ≢ 0 → getD st (r .reclaimable) 0 ≡ 2) → At K Pc.S2 (does g Pc.S2 r i)
   kS2 i l w =

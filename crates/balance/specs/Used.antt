@@ -14,7 +14,7 @@ use Rattle.rules.specs.Pc
 use Rattle.rules.specs.Pc.{Pc, pcOf, code}
 use Rattle.rules.specs.Rows
 use Rattle.rules.specs.Rows.{idle, goTo}
-use Rattle.rules.specs.Places.{accesses, does, ends, also, becomes}
+use Rattle.rules.specs.Places.{accesses, does, ends, alsoStores, becomes}
 use Rattle.rules.specs.Start.{begins, freshAt}
 use Rattle.rules.specs.declared.Operation.{Operation}
 use Rattle.rules.specs.declared.Operation.the-variants.{Release, Shutdown}
@@ -138,7 +138,7 @@ module _ (g : Settings) (v : View) (I : UsedIn v) (lv : Long v) (t : ℕ) (ht : 
     kA6 : (i : Seen) → Look g v t Pc.A6 r i → links r ≡ 0 → At K Pc.A6 (does g Pc.A6 r i)
     kA6 i l z = let k = in-hand Pc.A6 (l .place) refl in thus (reholds (r .rec) (i .thread + 2) n idle (k .1) (let a = k .0 in omega arith) (I .most))
 
-    kN1 : (i : Seen) → Look g v t Pc.N1 r i → links r ≡ 0 → eqb (i .untaken) 0 ≡ false → At K Pc.N1 (also (cell.Holder (i .untaken)) 1 (becomes (goTo Pc.N2 (Rows.withRec (i .untaken) (Rows.withNext (i .v) r)))))
+    kN1 : (i : Seen) → Look g v t Pc.N1 r i → links r ≡ 0 → eqb (i .untaken) 0 ≡ false → At K Pc.N1 (alsoStores (cell.Holder (i .untaken)) 1 (becomes (goTo Pc.N2 (Rows.withRec (i .untaken) (Rows.withNext (i .v) r)))))
     kN1 i l z q = let k = untaken-free l q in thus (reholds (i .untaken) 1 n _ (k .0) (let a = k .1 in omega arith) (I .most))
 
     -- N3: as the row was used and not counted, the count is less than the used rows

@@ -17,8 +17,8 @@ use Rattle.rules.specs.Pc
 use Rattle.rules.specs.Pc.{Pc, pcOf, code}
 use Rattle.rules.specs.Rows
 use Rattle.rules.specs.Rows.{idle, inShard, shardIn, stealing, goTo, first}
-use Rattle.rules.specs.Places.{accesses, does, ends, becomes, stores, also, done, reclaims, guarding, clearsGuards}
-use Rattle.rules.specs.Step.{guarded}
+use Rattle.rules.specs.Places.{accesses, does, ends, becomes, stores, alsoStores, finishes, reclaims, guarding, clearsGuards}
+use Rattle.rules.specs.Step.{guardsAfter}
 use Rattle.rules.specs.Start.{begins, narrow, freshAt}
 use Rattle.rules.specs.declared.Operation.{Operation}
 use Rattle.rules.specs.declared.Operation.the-variants.{Reset, Raw, Swap, Retire, Shutdown}
@@ -78,12 +78,12 @@ shut-safe : (p : Pc) (next : List ℕ) (head : ℕ) (g : List (List ℕ)) (cl : 
 shut-safe p next head g cl ls u rec h = rw (shut-before p h) tt
 
 -- of a set, only that it sets and that it keeps
-guards-set : (w : List ℕ) (n : ℕ) → 0 < n → n ≤ 64 * length w → isGuarded (guarded w (guards.Set n)) n ≡ true
-unfolding guarded
+guards-set : (w : List ℕ) (n : ℕ) → 0 < n → n ≤ 64 * length w → isGuarded (guardsAfter w (guards.Set n)) n ≡ true
+unfolding guardsAfter
 guards-set w n a b = guarded-also w n a b
 
-guards-set-kept : (w : List ℕ) (n m : ℕ) → isGuarded w m ≡ true → isGuarded (guarded w (guards.Set n)) m ≡ true
-unfolding guarded
+guards-set-kept : (w : List ℕ) (n m : ℕ) → isGuarded w m ≡ true → isGuarded (guardsAfter w (guards.Set n)) m ≡ true
+unfolding guardsAfter
 guards-set-kept w n m h = guarded-kept w n m h
 
 -- what a value at V2 needs of the hazards, and who is there: an owner
@@ -141,8 +141,8 @@ module _ (g : Settings) (v : View) (ls : List (List ℕ)) (H : HeapIn g v ls) (R
   not-D1 p e ne q = ne (ap code (sym (pc-is p e) ∙ q))
 
   -- guarded sets that stay
-  gs-keep : set gs t (guarded (getD gs t []) guards.Keep) ≡ gs
-  unfolding guarded
+  gs-keep : set gs t (guardsAfter (getD gs t []) guards.Keep) ≡ gs
+  unfolding guardsAfter
   gs-keep = set-getD gs t []
 
   -- a claimed node is not on the thread's reclaim list where the step adds nothing to it
@@ -150,7 +150,7 @@ module _ (g : Settings) (v : View) (ls : List (List ℕ)) (H : HeapIn g v ls) (R
   spares p i v′ N z c n k = let a = N .reclaim n in let b = I .claims c n k .spared t ht in let w = z n in omega arith
 
   calm : (p : Pc) → r .place ≡ code p → code p ≢ code Pc.D1 → (i : Seen) {v′ : View} (N : Next g v ls t p i v′) → ((n : ℕ) → gains p r i n ≡ 0) → (x : Row) → Val hz x → Safe next head gs cl (N .lists) t x
-      → ClaimsAt mark st src hz next head ho (set gs t (guarded (getD gs t []) guards.Keep)) (set rows t x) cl (N .lists)
+      → ClaimsAt mark st src hz next head ho (set gs t (guardsAfter (getD gs t []) guards.Keep)) (set rows t x) cl (N .lists)
   calm p e ne i {v′} N z x val s =
       subst (λ (y : List (List ℕ)). ClaimsAt mark st src hz next head ho y (set rows t x) cl (N .lists)) (sym gs-keep)
       (Claim.relist mark st src hz next head ho gs rows cl ls I t ht x (N .lists) (N .others) (not-D1 p e ne) (spares p i v′ N z) val s)
@@ -191,7 +191,7 @@ module _ (g : Settings) (v : View) (ls : List (List ℕ)) (H : HeapIn g v ls) (R
 
   -- ho′: nobody at V2 has this record
   stored : (i : Seen) (p : Pc) {v′ : View} (N : Next g v ls t p i v′) → ((n : ℕ) → gains p r i n ≡ 0) → IsId records (r .rec) → ((u : ℕ) → u < length rows → u ≢ t → getD ho (r .rec) 0 ≢ u + 2) → (y : ℕ) (x : Row) → Val (set hz (r .rec) y) x → Safe next head gs (set cl (r .rec) 0) (N .lists) t x
-      → ClaimsAt mark st src (set hz (r .rec) y) next head ho (set gs t (guarded (getD gs t []) guards.Keep)) (set rows t x) (set cl (r .rec) 0) (N .lists)
+      → ClaimsAt mark st src (set hz (r .rec) y) next head ho (set gs t (guardsAfter (getD gs t []) guards.Keep)) (set rows t x) (set cl (r .rec) 0) (N .lists)
   stored i p {v′} N z id others y x val s =
       subst (λ (w : List (List ℕ)). ClaimsAt mark st src (set hz (r .rec) y) next head ho w (set rows t x) (set cl (r .rec) 0) (N .lists)) (sym gs-keep)
       (Claim.puts mark st src hz next head ho gs rows cl ls I t ht mark st src (set hz (r .rec) y) next head ho gs x (set cl (r .rec) 0) (N .lists) (I .sources) (I .states)
@@ -307,7 +307,7 @@ module _ (g : Settings) (v : View) (ls : List (List ℕ)) (H : HeapIn g v ls) (R
           go zero q = refl
           go (suc y) q = absurd (let w = waits u j m hu hj (omega arith) in let z : getD st m 0 ≡ 1 = rw e (live (λ x. nz (e ∙ x))) in omega arith)
 
-      valid : i .v ≡ r .node → K Pc.V2 i (done (i .v))
+      valid : i .v ≡ r .node → K Pc.V2 i (finishes (i .v))
       valid e N =
           subst (λ (w : List (List ℕ)). ClaimsAt mark st src hz next head ho w (set rows t idle) (set cl a n) (N .lists)) (sym gs-keep)
           (Claim.puts mark st src hz next head ho gs rows cl ls I t ht mark st src hz next head ho gs idle (set cl a n) (N .lists) (I .sources) (I .states)
@@ -337,7 +337,7 @@ module _ (g : Settings) (v : View) (ls : List (List ℕ)) (H : HeapIn g v ls) (R
 
   -- ---- the holder of record a becomes y: nothing claimed loses its keeper
   reheld : (p : Pc) → r .place ≡ code p → code p ≢ code Pc.D1 → (i : Seen) {v′ : View} (N : Next g v ls t p i v′) → ((n : ℕ) → gains p r i n ≡ 0) → (a y : ℕ) → a < length ho → (2 ≤ getD ho a 0 → 2 ≤ y) → (x : Row) → Val hz x → Safe next head gs cl (N .lists) t x
-      → ClaimsAt mark st src hz next head (set ho a y) (set gs t (guarded (getD gs t []) guards.Keep)) (set rows t x) cl (N .lists)
+      → ClaimsAt mark st src hz next head (set ho a y) (set gs t (guardsAfter (getD gs t []) guards.Keep)) (set rows t x) cl (N .lists)
   reheld p e nd i {v′} N z a y ha up x val s =
       let b = Claim.relist mark st src hz next head ho gs rows cl ls I t ht x (N .lists) (N .others) (not-D1 p e nd) (spares p i v′ N z) val s in
       subst (λ (w : List (List ℕ)). ClaimsAt mark st src hz next head (set ho a y) w (set rows t x) cl (N .lists)) (sym gs-keep)
@@ -359,7 +359,7 @@ module _ (g : Settings) (v : View) (ls : List (List ℕ)) (H : HeapIn g v ls) (R
           at (yes q) = rw (q, getD-set-same ho a y 0 ha) (up (rw q at w))
           at (no q) = rw (getD-set-other ho a c y 0 q) w
 
-  acquired : (p : Pc) → r .place ≡ code p → code p ≢ code Pc.D1 → hold p ≡ Hold.clear → (i : Seen) {v′ : View} (N : Next g v ls t p i v′) → ((n : ℕ) → gains p r i n ≡ 0) → i .thread ≡ t → ClaimsAt mark st src hz next head (set ho (r .rec) (i .thread + 2)) (set gs t (guarded (getD gs t []) guards.Keep)) (set rows t idle) cl (N .lists)
+  acquired : (p : Pc) → r .place ≡ code p → code p ≢ code Pc.D1 → hold p ≡ Hold.clear → (i : Seen) {v′ : View} (N : Next g v ls t p i v′) → ((n : ℕ) → gains p r i n ≡ 0) → i .thread ≡ t → ClaimsAt mark st src hz next head (set ho (r .rec) (i .thread + 2)) (set gs t (guardsAfter (getD gs t []) guards.Keep)) (set rows t idle) cl (N .lists)
   acquired p e nd q i N z et =
       let k = subst (λ (h : Hold). KnowOf h (v .heads .headAvailable) (v .records .availableNext) ho t (r .rec) (r .next)) q (know p t ht (pc-is p e)) in
       reheld p e nd i N z (r .rec) (i .thread + 2) (let a = lv .holder in let b = k .1 .1 in omega arith) (λ _. omega arith) idle tt tt
@@ -371,7 +371,7 @@ module _ (g : Settings) (v : View) (ls : List (List ℕ)) (H : HeapIn g v ls) (R
 
   -- ---- N2: the list of records, with the new one in front or with something written behind it
   relinked : (i : Seen) {v′ : View} (N : Next g v ls t Pc.N2 i v′) → r .place ≡ code Pc.N2 → (next′ : List ℕ) (head′ : ℕ) → ((L : List ℕ) → Seg next′ head′ L 0 → (n : ℕ) → occ n (R .all) ≤ occ n L) → ((rec : ℕ) (l : List ℕ) → Part next head l → Seg next rec l 0 → Seg next′ rec l 0) → (x : Row) → Val hz x → Safe next′ head′ gs cl (N .lists) t x
-      → ClaimsAt mark st src hz next′ head′ ho (set gs t (guarded (getD gs t []) guards.Keep)) (set rows t x) cl (N .lists)
+      → ClaimsAt mark st src hz next′ head′ ho (set gs t (guardsAfter (getD gs t []) guards.Keep)) (set rows t x) cl (N .lists)
   relinked i {v′} N e next′ head′ more frame x val s =
       subst (λ (w : List (List ℕ)). ClaimsAt mark st src hz next′ head′ ho w (set rows t x) cl (N .lists)) (sym gs-keep)
       (Claim.puts mark st src hz next head ho gs rows cl ls I t ht mark st src hz next′ head′ ho gs x cl (N .lists) (I .sources) (I .states)
@@ -405,11 +405,11 @@ module _ (g : Settings) (v : View) (ls : List (List ℕ)) (H : HeapIn g v ls) (R
       whole : Part next head (R .all)
       whole L q n = let e = seg-unique next head (R .all) L (R .chain) q in let a = ap (occ n) e in omega arith
 
-      lost : K Pc.N2 i (also (cell.RecordNext (r .rec)) (r .next) (becomes (Rows.withNext (i .v) r)))
+      lost : K Pc.N2 i (alsoStores (cell.RecordNext (r .rec)) (r .next) (becomes (Rows.withNext (i .v) r)))
       lost N = relinked i N (l .place) (set next (r .rec) (r .next)) head (λ L q n. let e = seg-unique (set next (r .rec) (r .next)) head (R .all) L (frame (r .next) head (R .all) whole (R .chain)) q in let a = ap (occ n) e in omega arith) (frame (r .next)) (Rows.withNext (i .v) r)
           (val-at Pc.N2 (Rows.withNext (i .v) r) (l .place) tt) (subst (λ (q : Pc). SafeOf (scan q) (set next (r .rec) (r .next)) head gs cl (N .lists) t (r .rec)) (sym (pc-is Pc.N2 (l .place))) tt)
 
-      won : i .v ≡ r .next → K Pc.N2 i (stores (r .rec) (also (cell.RecordNext (r .rec)) (r .next) (becomes (goTo Pc.N3 r))))
+      won : i .v ≡ r .next → K Pc.N2 i (stores (r .rec) (alsoStores (cell.RecordNext (r .rec)) (r .next) (becomes (goTo Pc.N3 r))))
       won e N = relinked i N (l .place) (set next (r .rec) (r .next)) (r .rec) more (frame (r .next)) (goTo Pc.N3 r) tt tt
         where
           same : r .next ≡ head
@@ -423,7 +423,7 @@ module _ (g : Settings) (v : View) (ls : List (List ℕ)) (H : HeapIn g v ls) (R
 
   -- ---- a swap: what goes into a source is live
   resourced : (i : Seen) {v′ : View} (N : Next g v ls t Pc.Swap i v′) → r .place ≡ code Pc.Swap → (b n : ℕ) (st′ : List ℕ) → (n ≢ 0 → getD st′ n 0 ≡ 1) → ((m : ℕ) → getD st m 0 ≡ 1 → getD st′ m 0 ≡ 1) → ((m : ℕ) → getD st m 0 ≢ 0 → getD st′ m 0 ≢ 0) → ((m : ℕ) → getD st′ m 0 ≤ 2)
-      → ClaimsAt mark st′ (set src b n) hz next head ho (set gs t (guarded (getD gs t []) guards.Keep)) (set rows t idle) cl (N .lists)
+      → ClaimsAt mark st′ (set src b n) hz next head ho (set gs t (guardsAfter (getD gs t []) guards.Keep)) (set rows t idle) cl (N .lists)
   resourced i {v′} N e b n st′ hn h1 h0 h2 =
       let q = Claim.relist mark st src hz next head ho gs rows cl ls I t ht idle (N .lists) (N .others) (not-D1 Pc.Swap e (omega arith)) (spares Pc.Swap i v′ N (λ _. refl)) tt tt in
       subst (λ (w : List (List ℕ)). ClaimsAt mark st′ (set src b n) hz next head ho w (set rows t idle) cl (N .lists)) (sym gs-keep)
@@ -511,7 +511,7 @@ module _ (g : Settings) (v : View) (ls : List (List ℕ)) (H : HeapIn g v ls) (R
       d = subst (λ (p : Pc). SafeOf (scan p) next head gs cl ls t (r .rec)) (pc-is Pc.H2 (l .place)) (I .safe t ht)
 
       w : List ℕ
-      w = guarded (getD gs t []) (guards.Set (i .v))
+      w = guardsAfter (getD gs t []) (guards.Set (i .v))
 
       q : (k : List ℕ) × (d .0 ≡ r .rec ∷ k) × (0 < r .rec) × (r .rec < length next) × Seg next (getD next (r .rec) 0) k 0
       q = seg-head next (r .rec) (d .0) (d .2) (d .1)
@@ -576,7 +576,7 @@ module _ (g : Settings) (v : View) (ls : List (List ℕ)) (H : HeapIn g v ls) (R
           go false e (inr d) = ap (λ (b : Bool). pick b 0 (eq01 n (first r))) e ∙ d .1
           go false e (inl d) = absurd (true≢false (sym (subst (λ (m : ℕ). isGuarded (getD gs t []) m ≡ true) (d .0) (after-at Pc.Examine (l .place) refl c n k (subst (Stolen ls t) (sym (d .0)) here))) ∙ sym (l .guarded) ∙ e))
 
-      leaf : {v′ : View} (N : Next g v ls t Pc.Examine i v′) (x : Row) → Val hz x → Safe next head gs cl (N .lists) t x → ClaimsAt mark st src hz next head ho (set gs t (guarded (getD gs t []) guards.Keep)) (set rows t x) cl (N .lists)
+      leaf : {v′ : View} (N : Next g v ls t Pc.Examine i v′) (x : Row) → Val hz x → Safe next head gs cl (N .lists) t x → ClaimsAt mark st src hz next head ho (set gs t (guardsAfter (getD gs t []) guards.Keep)) (set rows t x) cl (N .lists)
       leaf N x val s =
           subst (λ (y : List (List ℕ)). ClaimsAt mark st src hz next head ho y (set rows t x) cl (N .lists)) (sym gs-keep)
           (Claim.relist mark st src hz next head ho gs rows cl ls I t ht x (N .lists) (N .others) (not-D1 Pc.Examine (l .place) (omega arith)) (λ c n k. let a = N .reclaim n in let b = I .claims c n k .spared t ht in let w = gain c n k in omega arith) val s)
@@ -592,7 +592,7 @@ module _ (g : Settings) (v : View) (ls : List (List ℕ)) (H : HeapIn g v ls) (R
   reclaim-waits nz = waits t toReclaim (r .reclaimable) ht (omega arith) (head-in toReclaim (r .reclaimable) (omega arith) (get-reclaim (r .stolen) (r .reclaimable) (r .unreclaimed) (r .lone) eight) nz)
 
   freed : (p : Pc) → r .place ≡ code p → code p ≢ code Pc.D1 → (i : Seen) {v′ : View} (N : Next g v ls t p i v′) → ((n : ℕ) → gains p r i n ≡ 0) → r .reclaimable ≢ 0 → (x : Row) → Val hz x → Safe next head gs cl (N .lists) t x
-      → ClaimsAt mark (set st (r .reclaimable) 0) src hz next head ho (set gs t (guarded (getD gs t []) guards.Keep)) (set rows t x) cl (N .lists)
+      → ClaimsAt mark (set st (r .reclaimable) 0) src hz next head ho (set gs t (guardsAfter (getD gs t []) guards.Keep)) (set rows t x) cl (N .lists)
   freed p e nd i {v′} N z nz x val s =
       let q = Claim.relist mark st src hz next head ho gs rows cl ls I t ht x (N .lists) (N .others) (not-D1 p e nd) (spares p i v′ N z) val s in
       subst (λ (w : List (List ℕ)). ClaimsAt mark (set st (r .reclaimable) 0) src hz next head ho w (set rows t x) cl (N .lists)) (sym gs-keep)
@@ -632,7 +632,7 @@ module _ (g : Settings) (v : View) (ls : List (List ℕ)) (H : HeapIn g v ls) (R
   kS1 : (i : Seen) → Look g v t Pc.S1 r i → At (λ (p : Pc) (e : Effect). K p i e) Pc.S1 (does g Pc.S1 r i)
   kS1 i l = thus (pick-all (K Pc.S1 i) (eqb (i .v) 0) _ _ (all-shut (λ x. K Pc.S1 i (stores 0 (becomes x))) g r (λ N. on N _ tt tt) (λ j N. on N _ tt tt)) (λ N. on N _ tt tt))
     where
-      on : {v′ : View} (N : Next g v ls t Pc.S1 i v′) (x : Row) → Val hz x → Safe next head gs cl (N .lists) t x → ClaimsAt mark st src hz next head ho (set gs t (guarded (getD gs t []) guards.Keep)) (set rows t x) cl (N .lists)
+      on : {v′ : View} (N : Next g v ls t Pc.S1 i v′) (x : Row) → Val hz x → Safe next head gs cl (N .lists) t x → ClaimsAt mark st src hz next head ho (set gs t (guardsAfter (getD gs t []) guards.Keep)) (set rows t x) cl (N .lists)
       on N x val s =
           subst (λ (y : List (List ℕ)). ClaimsAt mark st src hz next head ho y (set rows t x) cl (N .lists)) (sym gs-keep)
           (Claim.relist mark st src hz next head ho gs rows cl ls I t ht x (N .lists) (N .others) (not-D1 Pc.S1 (l .place) (omega arith)) (λ c n k. absurd (shut-none Pc.S1 (l .place) (λ q. q) c n k)) val s)
@@ -652,7 +652,7 @@ module _ (g : Settings) (v : View) (ls : List (List ℕ)) (H : HeapIn g v ls) (R
     states = I .states;
     claims = λ c n k. absurd (none c n k);
     vals = λ u hu. shut-val (pcOf (getD (set rows t idle) u idle .place)) (cleared hz) (getD (set rows t idle) u idle .rec) (getD (set rows t idle) u idle .node) (shut u hu);
-    safe = λ u hu. shut-safe (pcOf (getD (set rows t idle) u idle .place)) (cleared next) 0 (set gs t (guarded (getD gs t []) guards.Keep)) (replicate (suc records) 0) (N .lists) u (getD (set rows t idle) u idle .rec) (shut u hu);
+    safe = λ u hu. shut-safe (pcOf (getD (set rows t idle) u idle .place)) (cleared next) 0 (set gs t (guardsAfter (getD gs t []) guards.Keep)) (replicate (suc records) 0) (N .lists) u (getD (set rows t idle) u idle .rec) (shut u hu);
     over = λ m c n k. none c n k;
     long = length-replicate {A = ℕ} (suc records) 0 ∙ sym (lv .hazard) ∙ sym (length-replicate (length hz) 0);
   }
@@ -681,7 +681,7 @@ module _ (g : Settings) (v : View) (ls : List (List ℕ)) (H : HeapIn g v ls) (R
   stays : {p : Pc} {x : Row} → r .place ≡ code p → scan p ≡ Scan.before → x .place ≡ r .place → Sit p x
   stays {p} {x} e q w = let z : scan (pcOf (x .place)) ≡ Scan.before = ap (λ (n : ℕ). scan (pcOf n)) w ∙ ap scan (pc-is p e) ∙ q in record { val = rw z tt; safe = λ ls′. rw z tt }
 
-  leaf : (i : Seen) {p : Pc} {e : Effect} → r .place ≡ code p → eqb (code p) (code Pc.D1) ≡ false → ((n : ℕ) → gains p r i n ≡ 0) → ClaimsAt mark st src hz next head ho (set gs t (guarded (getD gs t []) guards.Keep)) (set rows t (e .row)) cl ≡ ClaimsIn (applies t (named (accesses p r)) e v) (marks p r e cl) → Sit p (e .row) → At (λ (p : Pc) (e : Effect). K p i e) p e
+  leaf : (i : Seen) {p : Pc} {e : Effect} → r .place ≡ code p → eqb (code p) (code Pc.D1) ≡ false → ((n : ℕ) → gains p r i n ≡ 0) → ClaimsAt mark st src hz next head ho (set gs t (guardsAfter (getD gs t []) guards.Keep)) (set rows t (e .row)) cl ≡ ClaimsIn (applies t (named (accesses p r)) e v) (marks p r e cl) → Sit p (e .row) → At (λ (p : Pc) (e : Effect). K p i e) p e
   leaf i {p} {e} h d z q k = thus λ N. subst (λ (X : List (List ℕ) → Type 0). X (N .lists)) q (calm p h (eqb-false (code p) (code Pc.D1) d) i N z (e .row) (k .val) (k .safe (N .lists)))
 
   pub claim-place : (p : Pc) (i : Seen) → Look g v t p r i → K p i (does g p r i)
@@ -773,4 +773,4 @@ module _ (g : Settings) (v : View) (ls : List (List ℕ)) (H : HeapIn g v ls) (R
     -- the lists after a start
     pub claim-begin : (o : Operation) → Admitted v t o → ClaimsIn (enters t (begins g o) v) cl (begunLists ls t o)
     unfolding begins
-    claim-begin = every-start (λ (o : Operation). Admitted v t o → ClaimsIn (enters t (begins g o) v) cl (begunLists ls t o)) (search (two, starts, releasing, retire, shutting, tt))
+    claim-begin = every-start (λ (o : Operation). Admitted v t o → ClaimsIn (enters t (begins g o) v) cl (begunLists ls t o)) (search (two, starts, releasing, retire, shutting, tt) depth 12)

@@ -2,7 +2,7 @@
 ghost use mathlib.Core.Path.{_≡_};
 ghost use mathlib.Core.Bool.{false};
 ghost use Rattle.rules.specs.Rows.{idle};
-ghost use Rattle.rules.specs.Places.{answers, becomes, stores, also, clearsGuards, guarding, reclaims, closing, damaged};
+ghost use Rattle.rules.specs.Places.{answers, becomes, stores, alsoStores, clearsGuards, guarding, reclaims, closing, damaged};
 ghost use Rattle.rules.specs.declared.Guards.the-variants.{Keep};
 use rules::Effect;
 use rules::Guards;

@@ -17,7 +17,7 @@ use Rattle.rules.specs.Pc.{Pc, pcOf, code}
 use Rattle.rules.specs.Rows
 use Rattle.rules.specs.Rows.{idle, goTo, inShard, seeing, withLone, keeping, reclaiming, withDone, stealing, freeing, freed, shardIn, first, stolenFrom}
 use Rattle.rules.specs.Places
-use Rattle.rules.specs.Places.{checked, accesses, does, ends, becomes, stores, also, done, reclaims, passed, emptied, examined, reclaimed, shutNext}
+use Rattle.rules.specs.Places.{checked, accesses, does, ends, becomes, stores, alsoStores, finishes, reclaims, passed, emptied, examined, afterFree, shutNext}
 use Rattle.rules.specs.declared.Row.{Row}
 use Rattle.rules.specs.declared.Seen.{Seen}
 use Rattle.rules.specs.declared.Effect.{Effect}
@@ -158,7 +158,7 @@ module _ (g : Settings) (A : Allowed g) (v : View) (ls : List (List ℕ)) (I : H
       ls′ : List (List ℕ)
       ls′ = set (set ls (slot t alone) []) (r .shard) (r .lone ∷ getD ls (r .shard) [])
 
-      won : i .v ≡ r .seen → K Pc.T2 i (stores (r .lone) (also (cell.NodeNext (r .lone)) (r .seen) (becomes (goTo Pc.T3 (withLone 0 r)))))
+      won : i .v ≡ r .seen → K Pc.T2 i (stores (r .lone) (alsoStores (cell.NodeNext (r .lone)) (r .seen) (becomes (goTo Pc.T3 (withLone 0 r)))))
       won e = record {
         lists = ls′;
         inv = subst (λ (x : ℕ). HeapAt g (set next (r .lone) x) st (set sh (r .shard) (r .lone)) (set rows t (goTo Pc.T3 (withLone 0 r))) ls′) (sym (sees l tt refl .0) ∙ e)
@@ -170,7 +170,7 @@ module _ (g : Settings) (A : Allowed g) (v : View) (ls : List (List ℕ)) (I : H
         reclaim = λ n. let w = un-shard alone (r .shard) toReclaim [] (r .lone ∷ getD ls (r .shard) []) k8 (omega arith) n in omega arith;
       }
 
-      lost : K Pc.T2 i (also (cell.NodeNext (r .lone)) (r .seen) (becomes (seeing (i .v) r)))
+      lost : K Pc.T2 i (alsoStores (cell.NodeNext (r .lone)) (r .seen) (becomes (seeing (i .v) r)))
       lost = still (Moves.scribble g next st sh rows ls I t ht alone (r .lone) (r .seen) (seeing (i .v) r) (omega arith) (omega arith) (λ z. c .lone (sym (get-alone (r .stolen) (r .reclaimable) (r .unreclaimed) (r .lone) (c .eight)) ∙ z)) (rw one) refl
           (shaped g A Pc.T2 (seeing (i .v) r) (l .place) c) (Moves.ends-same g next st sh rows ls I t ht ls (seeing (i .v) r) refl refl refl refl refl))
 
@@ -358,7 +358,7 @@ module _ (g : Settings) (A : Allowed g) (v : View) (ls : List (List ℕ)) (I : H
       thus (let c : ShapeOf g Stage.reclaims r = shape Pc.Reclaim (l .place) in
       let x : Row = freeing (reclaiming (i .v) r) in
       let z = seat-reclaimed g A (i .v) x (l .place) (c .here) refl (record { eight = c .eight; none = c .none; reclaim = tt; keep = tt; lone = c .lone; here = tt }) in
-      frees Pc.Reclaim i (reclaimed g (i .v) x) (c .eight) (c .reclaim) (z .hooks ∙ hook-reclaim (r .stolen) (r .reclaimable) (r .unreclaimed) (r .lone) (c .eight) (i .v) ∙ ap (set (hooks r) toReclaim) (sees l tt refl .0)) (z .shape) (z .unreclaimed) (z .tail) (z .lone))
+      frees Pc.Reclaim i (afterFree g (i .v) x) (c .eight) (c .reclaim) (z .hooks ∙ hook-reclaim (r .stolen) (r .reclaimable) (r .unreclaimed) (r .lone) (c .eight) (i .v) ∙ ap (set (hooks r) toReclaim) (sees l tt refl .0)) (z .shape) (z .unreclaimed) (z .tail) (z .lone))
 
   kEmpty : (i : Seen) → Look g v t Pc.Empty r i → At (λ (p : Pc) (e : Effect). K p i e) Pc.Empty (does g Pc.Empty r i)
   kEmpty i l =
@@ -394,7 +394,7 @@ module _ (g : Settings) (A : Allowed g) (v : View) (ls : List (List ℕ)) (I : H
       ls′ : List (List ℕ)
       ls′ = set (set ls (slot t toKeep) []) 0 (getD ls (slot t toKeep) [] ++ getD ls 0 [])
 
-      won : i .v ≡ r .seen → K Pc.Push2 i (stores (r .unreclaimed) (also (cell.NodeNext (r .tail)) (r .seen) (becomes (passed (keeping 0 0 r)))))
+      won : i .v ≡ r .seen → K Pc.Push2 i (stores (r .unreclaimed) (alsoStores (cell.NodeNext (r .tail)) (r .seen) (becomes (passed (keeping 0 0 r)))))
       won e = record {
         lists = ls′;
         inv = subst (λ (a : ℕ). HeapAt g (set next (r .tail) a) st (set sh 0 (r .unreclaimed)) (set rows t (passed (keeping 0 0 r))) ls′) (sym (sees l tt refl .0) ∙ e)
@@ -405,7 +405,7 @@ module _ (g : Settings) (A : Allowed g) (v : View) (ls : List (List ℕ)) (I : H
         reclaim = λ n. let w = un-shard toKeep 0 toReclaim [] (getD ls (slot t toKeep) [] ++ getD ls 0 []) (omega arith) (omega arith) n in omega arith;
       }
 
-      lost : K Pc.Push2 i (also (cell.NodeNext (r .tail)) (r .seen) (becomes (seeing (i .v) r)))
+      lost : K Pc.Push2 i (alsoStores (cell.NodeNext (r .tail)) (r .seen) (becomes (seeing (i .v) r)))
       lost = still (Moves.scribble g next st sh rows ls I t ht toKeep (r .tail) (r .seen) (seeing (i .v) r) (omega arith) (omega arith) (λ y. c .keep (sym keep ∙ y)) (I .ends t ht .tail (c .keep)) refl
           (shaped g A Pc.Push2 (seeing (i .v) r) (l .place) c) (Moves.ends-same g next st sh rows ls I t ht ls (seeing (i .v) r) refl refl refl refl refl))
 
@@ -464,7 +464,7 @@ module _ (g : Settings) (A : Allowed g) (v : View) (ls : List (List ℕ)) (I : H
       c : ShapeOf g Stage.clean r
       c = shape Pc.Swap (l .place)
 
-      live : eqb (r .node) 0 ≡ false → i .w ≡ 0 → K Pc.Swap i (stores (r .node) (also (cell.NodeState (r .node)) 1 (done (i .v))))
+      live : eqb (r .node) 0 ≡ false → i .w ≡ 0 → K Pc.Swap i (stores (r .node) (alsoStores (cell.NodeState (r .node)) 1 (finishes (i .v))))
       live e w0 = still (Moves.restate g next st sh rows ls I t ht (set st (r .node) 1) idle (length-set st (r .node) 1) (λ m. same m (ℕ-discrete m (r .node)) (decLe (length st) (r .node))) (idle-hooks g A r c) (idle-clean g A) (record { tail = λ z. absurd (z refl); lone = λ z. absurd (z refl) }))
         where
           same : (m : ℕ) → Dec (m ≡ r .node) → Dec (length st ≤ r .node) → waits (set st (r .node) 1) m ≡ waits st m
@@ -511,4 +511,4 @@ module _ (g : Settings) (A : Allowed g) (v : View) (ls : List (List ℕ)) (I : H
 
     pub heap-begin : (o : Operation) → Admitted v t o → length next ≡ suc nodes → ((x : ℕ) → shardOf g x < g .shards) → HeapIn g (enters t (begins g o) v) (begunLists ls t o)
     unfolding begins
-    heap-begin = every-start (λ (o : Operation). Admitted v t o → length next ≡ suc nodes → ((x : ℕ) → shardOf g x < g .shards) → HeapIn g (enters t (begins g o) v) (begunLists ls t o)) (search (two, fresh, idle-clean g A, shutdown, retire))
+    heap-begin = every-start (λ (o : Operation). Admitted v t o → length next ≡ suc nodes → ((x : ℕ) → shardOf g x < g .shards) → HeapIn g (enters t (begins g o) v) (begunLists ls t o)) (search (two, fresh, idle-clean g A, shutdown, retire) depth 12)

@@ -15,7 +15,7 @@ use Rattle.rules.specs.Sizes.{Settings}
 use Rattle.rules.specs.Pc
 use Rattle.rules.specs.Pc.{Pc, code}
 use Rattle.rules.specs.Rows.{idle, goTo, inShard, shardIn, stolenFrom}
-use Rattle.rules.specs.Places.{newPass, checked, passed, emptied, examineAt, examineFrom, examined, reclaimed, shutNext}
+use Rattle.rules.specs.Places.{newPass, checked, passed, emptied, examineAt, examineFrom, examined, afterFree, shutNext}
 use Rattle.rules.specs.declared.Row.{Row}
 use Rattle.lists.specs.Tab.{zeros}
 use Rattle.view.specs.Every.{pc-is, pick-all, pick-case}
@@ -166,8 +166,8 @@ module _ (g : Settings) (A : Allowed g) where
       through j e (inr h) (no q) = c .none j (inr h)
 
   -- a node was reclaimed: n is what is left of the reclaim list
-  pub seat-reclaimed : (n : ℕ) (x : Row) → x .place ≡ code Pc.Reclaim → x .shard < g .shards → x .reclaimable ≡ n → Is (λ j. (j ≤ x .shard) ⊎ (g .shards ≤ j)) any any null (Unit {0}) x → Seated g x (reclaimed g n x)
-  unfolding reclaimed
+  pub seat-reclaimed : (n : ℕ) (x : Row) → x .place ≡ code Pc.Reclaim → x .shard < g .shards → x .reclaimable ≡ n → Is (λ j. (j ≤ x .shard) ⊎ (g .shards ≤ j)) any any null (Unit {0}) x → Seated g x (afterFree g n x)
+  unfolding afterFree
   seat-reclaimed n x ep hs en c =
       pick-case (Seated g x) (eqb n 0) _ _
       (λ e. subst (λ (k : ℕ). Seated g x (examineFrom g (k + 1) x)) (sym (shard-in x hs))

@@ -122,7 +122,7 @@ event g s (step t flag clock) = eventBy t (pcOf (row s t .place)) (row s t) (ste
 
 -- ---- a run: any moves from the fresh domain; its history: their events, the last first
 pub data Run (g : Settings) : State → List Event → Type 0 where
-  begins : Run g fresh []
+  untouched : Run g fresh []
   goes : {s : State} {h : List Event} → Run g s h → (m : Move) → Run g (act g s m .state) (event g s m ∷ h)
 
 -- ---- a claim: the node that record c last validated, 0 where its hazard was stored to since
@@ -151,12 +151,12 @@ overwrites c =
     elim [ quiet ↦ 0 | stored t d ↦ eq01 c d | cleared ↦ 1 | validated t m ↦ 0 | retired m ↦ 0 | reclaimed m ↦ 0 ]
 
 -- ---- how often node n's retirement was accepted, and how often n was reclaimed
-abbrev pub retires : ℕ → Event → ℕ
-retires n =
+abbrev pub retirements : ℕ → Event → ℕ
+retirements n =
     elim [ quiet ↦ 0 | stored t c ↦ 0 | cleared ↦ 0 | validated t m ↦ 0 | retired m ↦ eq01 n m | reclaimed m ↦ 0 ]
 
-abbrev pub reclaims : ℕ → Event → ℕ
-reclaims n =
+abbrev pub reclamations : ℕ → Event → ℕ
+reclamations n =
     elim [ quiet ↦ 0 | stored t c ↦ 0 | cleared ↦ 0 | validated t m ↦ 0 | retired m ↦ 0 | reclaimed m ↦ eq01 n m ]
 
 -- ---- waiting: 1 where node n waits; how many do
@@ -219,7 +219,7 @@ OnePlace g =
 -- alternate.
 abbrev pub Once : Settings → Type 0
 Once g =
-    (s : State) (h : List Event) → Run g s h → (n : ℕ) → sum (retires n) h ≡ sum (reclaims n) h + waits s n
+    (s : State) (h : List Event) → Run g s h → (n : ℕ) → sum (retirements n) h ≡ sum (reclamations n) h + waits s n
 
 -- 5. When no thread is inside an operation, at most max(floor, 2 x records) nodes wait.
 abbrev pub Bound : Settings → Type 0

@@ -52,7 +52,7 @@ use Rattle.claims.specs.Claim.{ClaimsIn}
 use Rattle.ranges.specs.Range.{Ranges}
 use Rattle.ranges.specs.RangeStep.{range-place, range-ends, range-begin}
 use Rattle.claims.specs.ClaimStep.{claim-place, claim-ends, claim-begin, reclaim-waits}
-use Rattle.history.specs.Demand3.{fresh, row, Move, act, Event, eventBy, eventOf, event, Run, claims, retires, reclaims}
+use Rattle.history.specs.Demand3.{fresh, row, Move, act, Event, eventBy, eventOf, event, Run, claims, retirements, reclamations}
 use Rattle.history.specs.Fresh.{nothing, fresh-view, fresh-sized, fresh-heap, fresh-records, fresh-zone, fresh-count, fresh-used, fresh-tally, fresh-total, fresh-swing, fresh-claims, fresh-ranges, fresh-aims, fresh-waits}
 use Rattle.history.specs.Heard.{tells, Aims, heard}
 use Rattle.history.specs.Told.{Told, told}
@@ -89,7 +89,7 @@ pub record InvAt (g : Settings) (v : View) (h : List Event) : Type 0 where
   pub claim : ClaimsIn v (claims h) lists
   pub ranges : Ranges g v
   pub aims : Each idle (Aims h) (v .rows)
-  pub ledger : (n : ℕ) → sum (retires n) h ≡ sum (reclaims n) h + waits (v .nodes .state) n
+  pub ledger : (n : ℕ) → sum (retirements n) h ≡ sum (reclamations n) h + waits (v .nodes .state) n
 
 pub record Inv (g : Settings) (s : State) (h : List Event) : Type 0 where
   pub sized : Sized s
@@ -194,7 +194,7 @@ module _ (g : Settings) (C : Chosen g) (s : State) (h : List Event) (I : Inv g s
 
   -- ---- a start
   begun-events : (t : ℕ) (o : Operation) → Admitted v t o → (claims (eventOf (answer 1 0) o ∷ h) ≡ claims h)
-      × ((n : ℕ) → retires n (eventOf (answer 1 0) o) + waits (v .nodes .state) n ≡ reclaims n (eventOf (answer 1 0) o) + waits (enters t (begins g o) v .nodes .state) n)
+      × ((n : ℕ) → retirements n (eventOf (answer 1 0) o) + waits (v .nodes .state) n ≡ reclamations n (eventOf (answer 1 0) o) + waits (enters t (begins g o) v .nodes .state) n)
   unfolding begins
   begun-events t Acquire a = (refl, λ n. refl)
   begun-events t (Release x) a = (refl, λ n. refl)
@@ -276,5 +276,5 @@ inv-fresh g = record {
 
 -- every run meets the invariant
 pub inv-run : (g : Settings) → Chosen g → {s : State} {h : List Event} → Run g s h → Inv g s h
-inv-run g C Run.begins = inv-fresh g
+inv-run g C Run.untouched = inv-fresh g
 inv-run g C (Run.goes {s} {h} x m) = inv-move g C s h (inv-run g C x) m

@@ -14,7 +14,7 @@ use Rattle.rules.specs.Sizes.{nodes, Settings}
 use Rattle.rules.specs.Pc
 use Rattle.rules.specs.Pc.{Pc, code}
 use Rattle.rules.specs.Places
-use Rattle.rules.specs.Places.{accesses, does, stores, also, done}
+use Rattle.rules.specs.Places.{accesses, does, stores, alsoStores, finishes}
 use Rattle.rules.specs.declared.Row.{Row}
 use Rattle.rules.specs.declared.Seen.{Seen}
 use Rattle.rules.specs.declared.Effect.{Effect}
@@ -27,13 +27,13 @@ use Rattle.view.specs.Every.{every, two, At, either}
 use Rattle.view.specs.Long.{Long}
 use Rattle.view.specs.Turn.{rowIn, Look, swap-free}
 use Rattle.claims.specs.ClaimStep.{marks}
-use Rattle.history.specs.Demand3.{Event, claims, retires, reclaims}
+use Rattle.history.specs.Demand3.{Event, claims, retirements, reclamations}
 use Rattle.history.specs.Heard.{tells, Aims}
 
 pub record Told (v : View) (t : ℕ) (h : List Event) (p : Pc) (e : Effect) : Type 0 where
   pub claim : claims (tells v t p e ∷ h) ≡ marks p (rowIn v t) e (claims h)
-  pub waiting : (n : ℕ) → waits (v .nodes .state) n ≡ waits (applies t (named (accesses p (rowIn v t))) e v .nodes .state) n + reclaims n (tells v t p e)
-  pub retire : (n : ℕ) → retires n (tells v t p e) ≡ 0
+  pub waiting : (n : ℕ) → waits (v .nodes .state) n ≡ waits (applies t (named (accesses p (rowIn v t))) e v .nodes .state) n + reclamations n (tells v t p e)
+  pub retire : (n : ℕ) → retirements n (tells v t p e) ≡ 0
   pub frees : e .number ≡ 4 → (e .value ≡ rowIn v t .reclaimable) × (rowIn v t .reclaimable ≢ 0)
 
 -- a: at V2 the thread has stored to its record's hazard last
@@ -57,15 +57,15 @@ module _ (g : Settings) (v : View) (lv : Long v) (t : ℕ) (h : List Event) (a :
   enlive n h w m (no e) = rw (getD-set-other st n m 1 0 e) (omega arith)
 
   -- no node changes its state
-  leaf : {p : Pc} {e : Effect} → claims (tells v t p e ∷ h) ≡ marks p r e (claims h) → applies t (named (accesses p r)) e v .nodes .state ≡ st → ((n : ℕ) → reclaims n (tells v t p e) ≡ 0) → ((n : ℕ) → retires n (tells v t p e) ≡ 0) → eqb (e .number) 4 ≡ false → At K p e
+  leaf : {p : Pc} {e : Effect} → claims (tells v t p e ∷ h) ≡ marks p r e (claims h) → applies t (named (accesses p r)) e v .nodes .state ≡ st → ((n : ℕ) → reclamations n (tells v t p e) ≡ 0) → ((n : ℕ) → retirements n (tells v t p e) ≡ 0) → eqb (e .number) 4 ≡ false → At K p e
   leaf {p} {e} c s k q f = record { holds = record { claim = c; waiting = λ n. rw s (let a = k n in omega arith); retire = q; frees = λ h. absurd (eqb-false (e .number) 4 f h) } }
 
   -- V2 validates for the record whose hazard V1 stored to
-  kV2 : (i : Seen) → r .place ≡ code Pc.V2 → At K Pc.V2 (done (i .v))
+  kV2 : (i : Seen) → r .place ≡ code Pc.V2 → At K Pc.V2 (finishes (i .v))
   kV2 i e = leaf (ap (λ (c : ℕ). set (claims h) c (i .v)) (a e)) refl (λ n. refl) (λ n. refl) refl
 
   -- a swap puts a free node, which is live then
-  kSwap : (i : Seen) → Look g v t Pc.Swap r i → eqb (r .node) 0 ≡ false → eqb (i .w) 0 ≡ true → At K Pc.Swap (stores (r .node) (also (cell.NodeState (r .node)) 1 (done (i .v))))
+  kSwap : (i : Seen) → Look g v t Pc.Swap r i → eqb (r .node) 0 ≡ false → eqb (i .w) 0 ≡ true → At K Pc.Swap (stores (r .node) (alsoStores (cell.NodeState (r .node)) 1 (finishes (i .v))))
   kSwap i l e q = record { holds = record { claim = refl; waiting = λ m. enlive (r .node) (let a = lv .state in let b = l .small .node in omega arith) (swap-free l e (eqb-true (i .w) 0 q)) m (ℕ-discrete m (r .node)); retire = λ n. refl; frees = λ h. absurd (omega arith) } }
 
   -- Reclaim and S2 free the head of the reclaim list, which waits

@@ -15,7 +15,7 @@ use Rattle.rules.specs.Words.{isGuarded}
 use Rattle.rules.specs.Rows.{first, rowFits, rowAt}
 use Rattle.rules.specs.Cells.{inRange, address, accessed}
 use Rattle.rules.specs.Places.{accessOf, followOf, effectOf}
-use Rattle.rules.specs.Step.{State, part, lent, guarded, guardsOf, guardsGiven, fetched, seen, readBy, judge, judged, lookBy, lookOf, untakenFor, state, Out, out, answer, refused, cellsGiven, given, takeBy, takeOf, stepIn, stepOf, sizes}
+use Rattle.rules.specs.Step.{State, part, lent, guardsAfter, guardsOf, guardsGiven, fetched, seen, readBy, judge, judged, lookBy, lookOf, untakenFor, state, Out, out, answer, refused, cellsGiven, given, takeBy, takeOf, stepIn, stepOf, sizes}
 use Rattle.rules.specs.declared.Row.{Row}
 use Rattle.rules.specs.declared.Cell.{Cell}
 use Rattle.rules.specs.declared.Seen.{Seen}
@@ -27,11 +27,11 @@ use Rattle.tables.specs.PartLaws.{onCells}
 use Rattle.rows.specs.RowLaws.{withRow}
 
 -- what a call on the thread's part of the guard words says of the whole table
-pub guards-part : (g p : List ℕ) (t : ℕ) (m : Guards) → p ≡ guarded (take (t * 64 + 64 - t * 64) (drop (t * 64) g)) m → putMid (t * 64) (t * 64 + 64 - t * 64) g p ≡ guardsGiven g t m
+pub guards-part : (g p : List ℕ) (t : ℕ) (m : Guards) → p ≡ guardsAfter (take (t * 64 + 64 - t * 64) (drop (t * 64) g)) m → putMid (t * 64) (t * 64 + 64 - t * 64) g p ≡ guardsGiven g t m
 unfolding guardsGiven
 guards-part g p t m e =
     ap (λ (q : List ℕ). putMid (t * 64) (t * 64 + 64 - t * 64) g q) e
-    ∙ ap (λ (k : ℕ). putMid (t * 64) k g (guarded (take k (drop (t * 64) g)) m)) (add-sub-cancel-left (t * 64) 64)
+    ∙ ap (λ (k : ℕ). putMid (t * 64) k g (guardsAfter (take k (drop (t * 64) g)) m)) (add-sub-cancel-left (t * 64) 64)
 
 pub guarded-part : (g : List ℕ) (t n : ℕ) (r : Bool) → r ≡ isGuarded (take (t * 64 + 64 - t * 64) (drop (t * 64) g)) n → r ≡ isGuarded (guardsOf g t) n
 guarded-part g t n r e = e ∙ ap (λ (k : ℕ). isGuarded (take k (drop (t * 64) g)) n) (add-sub-cancel-left (t * 64) 64)

@@ -2,7 +2,7 @@
 ghost use mathlib.Core.Path.{_≡_};
 ghost use Prim.Native.Nat.{_<_};
 ghost use lib.ListN.{length};
-ghost use Rattle.rules.specs.Step.{guarded, guardsOf, guardsGiven};
+ghost use Rattle.rules.specs.Step.{guardsAfter, guardsOf, guardsGiven};
 ghost use Rattle.rules.specs.Words.{isGuarded};
 use rules::Guards;
 
@@ -11,7 +11,7 @@ pub const WORDS: usize = 64;
 
 // What becomes of one set.
 fn give(set: &mut [u64], g: Guards)
-    ensures { λ _. ⌜ now (set .exit) ≡ guarded (now (set .entry)) g ⌝ }
+    ensures { λ _. ⌜ now (set .exit) ≡ guardsAfter (now (set .entry)) g ⌝ }
 {
     match g {
         Guards::Keep => {}

@@ -1,7 +1,7 @@
 // Where a pass goes on: the rows between Check, the stolen lists and the test for done.
 ghost use mathlib.Core.Path.{_≡_};
 ghost use Rattle.rules.specs.Sizes.{base};
-ghost use Rattle.rules.specs.Places.{checked, passed, emptied, examineAt, examineFrom, examined, reclaimed, shutNext, newPass};
+ghost use Rattle.rules.specs.Places.{checked, passed, emptied, examineAt, examineFrom, examined, afterFree, shutNext, newPass};
 ghost use Rattle.rules.specs.Rows.{goTo, stolenFrom, freed};
 ghost use Rattle.rules.specs.Pc;
 ghost use Rattle.base.specs.Pick.{pick};
@@ -147,7 +147,7 @@ pub fn freed(r: Row) -> Row
 
 // A node was reclaimed, and `rest` is what is left of its list.
 pub fn reclaimed(r: Row, rest: u32) -> Row
-    ensures { λ s. ⌜ s ≡ reclaimed base rest r ⌝ }
+    ensures { λ s. ⌜ s ≡ afterFree base rest r ⌝ }
 {
     reclaimed_by(r, rest, examine_from(r, r.shard % SHARDS + 1))
 }

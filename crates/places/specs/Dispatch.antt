@@ -4,7 +4,7 @@ use mathlib.Core.Path.{_≡_, ap, sym, _∙_}
 use lib.ListN.{List·getD-eq-default}
 use Rattle.rules.specs.Sizes.{Settings}
 use Rattle.rules.specs.Pc
-use Rattle.rules.specs.Pc.{Pc, places, pcOf}
+use Rattle.rules.specs.Pc.{Pc, order, pcOf}
 use Rattle.rules.specs.Places.{accesses, accessOf, does, effectOf, damaged}
 use Rattle.rules.specs.declared.Row.{Row}
 use Rattle.rules.specs.declared.Seen.{Seen}
@@ -14,7 +14,7 @@ use Rattle.rules.specs.declared.Access.the-variants as by
 use Rattle.rules.specs.declared.Named.the-variants as cell
 
 past-all : (p : ℕ) → 47 ≤ p → pcOf p ≡ Pc.Unknown
-past-all p h = List·getD-eq-default places Pc.Unknown h
+past-all p h = List·getD-eq-default order Pc.Unknown h
 
 module _ (r : Row) where
   pub accesses-at : (a : Access) (k : ℕ) → r .place ≡ k → a ≡ accesses (pcOf k) r → a ≡ accessOf r

@@ -11,7 +11,7 @@ use Rattle.rules.specs.Words.{withLock}
 use Rattle.rules.specs.Pc
 use Rattle.rules.specs.Pc.{Pc, code}
 use Rattle.rules.specs.Rows.{first, shardIn, stealing, keeping, stolenFrom}
-use Rattle.rules.specs.Places.{accesses, does, damaged, examineFrom, examined, reclaimed, shutNext}
+use Rattle.rules.specs.Places.{accesses, does, damaged, examineFrom, examined, afterFree, shutNext}
 use Rattle.rules.specs.declared.Row.{Row}
 use Rattle.rules.specs.declared.Seen.{Seen}
 use Rattle.rules.specs.declared.Effect.{Effect}
@@ -131,8 +131,8 @@ module _ (g : Settings) (v : View) (t : ℕ) (r : Row) (C : Known g v t r) where
   unfolding examined
   fit-examined n x f = pick-all (Fit g) (eqb n 0) _ _ (pick-all (Fit g) (eqb (x .reclaimable) 0) _ _ (fit-from (shardIn x + 1) x (onward x f) f) (fit (omega arith) (f .stolen))) f
 
-  fit-reclaimed : (n : ℕ) (x : Row) → Fit g x → Fit g (reclaimed g n x)
-  unfolding reclaimed
+  fit-reclaimed : (n : ℕ) (x : Row) → Fit g x → Fit g (afterFree g n x)
+  unfolding afterFree
   fit-reclaimed n x f = pick-all (Fit g) (eqb n 0) _ _ (fit-from (shardIn x + 1) x (onward x f) f) f
 
   fit-shut : (x : Row) → Fit g x → Fit g (shutNext g x)

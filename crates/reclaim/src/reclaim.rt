@@ -3,7 +3,7 @@ ghost use mathlib.Core.Path.{_≡_};
 ghost use Rattle.rules.specs.Sizes.{base};
 ghost use Rattle.rules.specs.Pc;
 ghost use Rattle.rules.specs.Places.{does};
-ghost use Rattle.rules.specs.Places.{becomes, stores, answers, clearsGuards, damaged, guarding, weak, also};
+ghost use Rattle.rules.specs.Places.{becomes, stores, answers, clearsGuards, damaged, guarding, weak, alsoStores};
 ghost use Rattle.rules.specs.Rows.{goTo, inShard, withRec, idle, seeing};
 ghost use Rattle.rules.specs.Words.{less};
 ghost use Rattle.base.specs.Pick.{pick};
@@ -203,7 +203,7 @@ pub fn push1(r: Row, i: Seen) -> Effect
 }
 
 fn push2_by(r: Row, i: Seen, on: Row) -> Effect
-    ensures { λ e. ⌜ e ≡ pick (eqb (r .unreclaimed) 0) (damaged r) (weak (i .v) (r .seen) (i .flag) (stores (r .unreclaimed) (also (cell.NodeNext (r .tail)) (r .seen) (becomes on))) (also (cell.NodeNext (r .tail)) (r .seen) (becomes (seeing (i .v) r)))) ⌝ }
+    ensures { λ e. ⌜ e ≡ pick (eqb (r .unreclaimed) 0) (damaged r) (weak (i .v) (r .seen) (i .flag) (stores (r .unreclaimed) (alsoStores (cell.NodeNext (r .tail)) (r .seen) (becomes on))) (alsoStores (cell.NodeNext (r .tail)) (r .seen) (becomes (seeing (i .v) r)))) ⌝ }
 {
     let mut s = r;
     if r.unreclaimed == 0 {

@@ -16,7 +16,7 @@ use Rattle.rules.specs.Pc
 use Rattle.rules.specs.Pc.{Pc, pcOf, code}
 use Rattle.rules.specs.Rows
 use Rattle.rules.specs.Rows.{idle, goTo}
-use Rattle.rules.specs.Places.{accesses, does, ends, becomes, stores, also, done}
+use Rattle.rules.specs.Places.{accesses, does, ends, becomes, stores, alsoStores, finishes}
 use Rattle.rules.specs.Start.{begins, freshAt}
 use Rattle.rules.specs.declared.Operation.{Operation}
 use Rattle.rules.specs.declared.Operation.the-variants.{Acquire, Release, Protect, Try, TryProtect, Reset, Raw, Swap, Retire, Eager, Cleanup, Shutdown}
@@ -136,7 +136,7 @@ module _ (g : Settings) (v : View) (I : RecordsIn v) (t : ℕ) (ht : t < length 
       (let a = h1 (r .rec) in let b = eq01-same (r .rec) in omega arith) (let a = o1 (r .rec) in omega arith)
       (λ n ne. let a = h1 n in let b = eq01-other n (r .rec) ne in omega arith) (λ n ne. let a = o1 n in omega arith) (ap lockOf (sym q)) (λ u ne. omega arith) tt))
 
-  kN1 : (i : Seen) → Look g v t Pc.N1 r i → eqb (i .untaken) 0 ≡ false → At K Pc.N1 (also (cell.Holder (i .untaken)) 1 (becomes (goTo Pc.N2 (Rows.withRec (i .untaken) (Rows.withNext (i .v) r)))))
+  kN1 : (i : Seen) → Look g v t Pc.N1 r i → eqb (i .untaken) 0 ≡ false → At K Pc.N1 (alsoStores (cell.Holder (i .untaken)) 1 (becomes (goTo Pc.N2 (Rows.withRec (i .untaken) (Rows.withNext (i .v) r)))))
   kN1 i l q0 =
       thus (RecordMoves.rehold ha head avn next ho rows I t ht u 1 x (let a = I .hoLong in let b = id .1 in omega arith) (λ z. absurd (z refl))
       (let z = is0 in let a = h0 u in let b = eq01-same u in omega arith) (let z = is0 in let a = o0 u in let b = eq01-same u in omega arith)
@@ -160,13 +160,13 @@ module _ (g : Settings) (v : View) (I : RecordsIn v) (t : ℕ) (ht : t < length 
       o0 : (n : ℕ) → off n r ≡ 0
       o0 = off-is Pc.N1 r (l .place)
 
-  kN2 : (i : Seen) → Look g v t Pc.N2 r i → eqb (i .v) (r .next) ≡ true → At K Pc.N2 (stores (r .rec) (also (cell.RecordNext (r .rec)) (r .next) (becomes (goTo Pc.N3 r))))
+  kN2 : (i : Seen) → Look g v t Pc.N2 r i → eqb (i .v) (r .next) ≡ true → At K Pc.N2 (stores (r .rec) (alsoStores (cell.RecordNext (r .rec)) (r .next) (becomes (goTo Pc.N3 r))))
   kN2 i l e =
       let k = know Pc.N2 (l .place) in
       thus (subst (λ (x : ℕ). RecordsAt ha (r .rec) avn (set next (r .rec) x) ho (set rows t (goTo Pc.N3 r))) (sym (sees l tt refl .0) ∙ eqb-true (i .v) (r .next) e)
       (RecordMoves.list ha head avn next ho rows I t ht (r .rec) (goTo Pc.N3 r) (k .1) (off-is Pc.N2 r (l .place)) (λ n. refl) (λ n. sym (has-is Pc.N2 r (l .place) n)) (sym (lock-is Pc.N2 r (l .place))) k))
 
-  kN2lost : (i : Seen) → Look g v t Pc.N2 r i → At K Pc.N2 (also (cell.RecordNext (r .rec)) (r .next) (becomes (Rows.withNext (i .v) r)))
+  kN2lost : (i : Seen) → Look g v t Pc.N2 r i → At K Pc.N2 (alsoStores (cell.RecordNext (r .rec)) (r .next) (becomes (Rows.withNext (i .v) r)))
   kN2lost i l =
       let k = know Pc.N2 (l .place) in
       let x : Row = Rows.withNext (i .v) r in
@@ -176,7 +176,7 @@ module _ (g : Settings) (v : View) (I : RecordsIn v) (t : ℕ) (ht : t < length 
   kP2 : (i : Seen) → Look g v t Pc.P2 r i → At K Pc.P2 (does g Pc.P2 r i)
   kP2 i l = let k = know Pc.P2 (l .place) in thus (RecordMoves.relink ha head avn next ho rows I t ht (r .rec) (r .next) (goTo Pc.P3 r) k (has-is Pc.P2 r (l .place)) (λ n. refl) (sym (lock-is Pc.P2 r (l .place))) (λ n. sym (off-is Pc.P2 r (l .place) n)) (getD-set-same avn (r .rec) (r .next) 0 (let a = I .avnLong in let b = k .1 in omega arith), k))
 
-  kP3 : (i : Seen) → Look g v t Pc.P3 r i → eqb (i .v) (r .next * 2) ≡ true → At K Pc.P3 (stores (r .rec * 2) (done 0))
+  kP3 : (i : Seen) → Look g v t Pc.P3 r i → eqb (i .v) (r .next * 2) ≡ true → At K Pc.P3 (stores (r .rec * 2) (finishes 0))
   kP3 i l e = let k = know Pc.P3 (l .place) in thus (RecordMoves.push ha head avn next ho rows I t ht (r .rec) idle (sym (sees l tt refl .0) ∙ eqb-true (i .v) (r .next * 2) e ∙ ap (λ (x : ℕ). x * 2) (sym (k .0))) (k .1) (has-is Pc.P3 r (l .place)) (λ n. refl) (lock-is Pc.P3 r (l .place)) refl (λ n. sym (off-is Pc.P3 r (l .place) n)) tt)
 
   -- ---- shutdown's last step: no thread holds a record

@@ -5,7 +5,8 @@ use lib.Dec.{eqb, ltb, leb}
 use Rattle.base.specs.Pick.{pick}
 use Rattle.rules.specs.Sizes.{records, sources, nodes, threads}
 use Rattle.rules.specs.declared.Class.{Class}
-use Rattle.rules.specs.declared.Class.the-variants.{Anything, ARecord, ANode, AnAvailable, AState, AHolder, NoCell}
+use Rattle.rules.specs.declared.Class.the-variants.{Anything, ARecord, ANode, AnAvailable, AState, AHolder}
+use Rattle.rules.specs.declared.Class.the-variants.{NoCell}
 use Rattle.rules.specs.declared.Cell.{Cell}
 use Rattle.rules.specs.declared.Named.{Named}
 use Rattle.rules.specs.declared.Named.the-variants as cell
@@ -82,4 +83,8 @@ abbrev pub unread : Cell → Cell
 unread c = pick (inRange (c .class) 0) (cellAt (c .table) (c .at) Anything) c
 
 abbrev pub accessed : Access → Cell
-accessed = elim [ by.Load c ↦ address c | by.Store c ↦ unread (address c) | by.HazardStore c ↦ unread (address c) | by.Update c ↦ address c | by.Private c ↦ address c ]
+accessed (by.Load c) = address c
+accessed (by.Store c) = unread (address c)
+accessed (by.HazardStore c) = unread (address c)
+accessed (by.Update c) = address c
+accessed (by.Private c) = address c

@@ -7,17 +7,20 @@ use Rattle.rules.specs.Sizes.{Settings}
 use Rattle.rules.specs.Words.{locked, withLock, plus, less, dueTime, over}
 use Rattle.rules.specs.Pc
 use Rattle.rules.specs.Pc.{Pc, pcOf}
-use Rattle.rules.specs.Rows.{idle, goTo, withRec, withNext, withNode, seeing, inShard, withLone, reclaiming, keeping, withDone, stealing, counting, taking, dated, freeing, freed, shardIn, first, stolenFrom}
+use Rattle.rules.specs.Rows.{idle, goTo, withRec, withNext, withNode, seeing, inShard, withLone, reclaiming}
+use Rattle.rules.specs.Rows.{keeping, withDone, stealing, counting, taking, dated, freeing, freed, shardIn}
+use Rattle.rules.specs.Rows.{first, stolenFrom}
 use Rattle.rules.specs.declared.Row.{Row}
 use Rattle.rules.specs.declared.Seen.{Seen}
 use Rattle.rules.specs.declared.Effect.{Effect}
+use Rattle.rules.specs.declared.Guards.{Guards}
 use Rattle.rules.specs.declared.Guards.the-variants as guards
 use Rattle.rules.specs.declared.Named.{Named}
 use Rattle.rules.specs.declared.Named.the-variants as cell
 use Rattle.rules.specs.declared.Access.{Access}
 use Rattle.rules.specs.declared.Access.the-variants as by
 
--- ---- the cell that is read beside it: H2 the record's `next`, a swap the new node's state, N1 the row that it would take
+-- ---- the cell that is read beside it: H2 the record's `next`, a swap the new node's state, N1 the row it would take
 unfoldable pub followOf : Row → ℕ → Named
 followOf r untaken =
     pick (eqb (r .place) (Pc.code Pc.H2)) (cell.RecordNext (r .rec))
@@ -25,16 +28,30 @@ followOf r untaken =
     (pick (eqb (r .place) (Pc.code Pc.N1)) (pick (eqb untaken 0) cell.Nothing (cell.Holder untaken)) cell.Nothing))
 
 -- ---- words for effects
+abbrev effect : Row → ℕ → ℕ → Bool → ℕ → Named → ℕ → Guards → Bool → Effect
+effect row number value writes put also to guards closes =
+    record {
+      row = row;
+      number = number;
+      value = value;
+      writes = writes;
+      put = put;
+      also = also;
+      to = to;
+      guards = guards;
+      closes = closes;
+    }
+
 abbrev pub answers : ℕ → ℕ → Row → Effect
-answers n v r = record { row = r; number = n; value = v; writes = false; put = 0; also = cell.Nothing; to = 0; guards = guards.Keep; closes = false }
+answers n v r = effect r n v false 0 cell.Nothing 0 guards.Keep false
 
 -- the step goes on with this row
 abbrev pub becomes : Row → Effect
 becomes r = answers 0 0 r
 
 -- the operation ends
-abbrev pub done : ℕ → Effect
-done v = answers 2 v idle
+abbrev pub finishes : ℕ → Effect
+finishes v = answers 2 v idle
 
 abbrev pub retry : ℕ → Effect
 retry v = answers 3 v idle
@@ -48,25 +65,25 @@ damaged r = answers 29 0 r
 
 -- the step's cell becomes v
 abbrev pub stores : ℕ → Effect → Effect
-stores v e = record { row = e .row; number = e .number; value = e .value; writes = true; put = v; also = e .also; to = e .to; guards = e .guards; closes = e .closes }
+stores v e = effect (e .row) (e .number) (e .value) true v (e .also) (e .to) (e .guards) (e .closes)
 
 -- the cell c becomes v as well
-abbrev pub also : Named → ℕ → Effect → Effect
-also c v e = record { row = e .row; number = e .number; value = e .value; writes = e .writes; put = e .put; also = c; to = v; guards = e .guards; closes = e .closes }
+abbrev pub alsoStores : Named → ℕ → Effect → Effect
+alsoStores c v e = effect (e .row) (e .number) (e .value) (e .writes) (e .put) c v (e .guards) (e .closes)
 
 abbrev pub clearsGuards : Row → Effect
-clearsGuards r = record { row = r; number = 0; value = 0; writes = false; put = 0; also = cell.Nothing; to = 0; guards = guards.Clear; closes = false }
+clearsGuards r = effect r 0 0 false 0 cell.Nothing 0 guards.Clear false
 
 abbrev pub guarding : ℕ → Row → Effect
-guarding n r = record { row = r; number = 0; value = 0; writes = false; put = 0; also = cell.Nothing; to = 0; guards = guards.Set n; closes = false }
+guarding n r = effect r 0 0 false 0 cell.Nothing 0 (guards.Set n) false
 
 -- node n is reclaimed: its row becomes 0
 abbrev pub reclaims : ℕ → Row → Effect
-reclaims n r = stores 0 (also (cell.NodeState n) 0 (answers 4 n r))
+reclaims n r = stores 0 (alsoStores (cell.NodeState n) 0 (answers 4 n r))
 
 -- shutdown is over: the record table and both record heads become 0
 abbrev pub closing : ℕ → Effect
-closing total = record { row = idle; number = 2; value = total; writes = true; put = 2; also = cell.Nothing; to = 0; guards = guards.Keep; closes = true }
+closing total = effect idle 2 total true 2 cell.Nothing 0 guards.Keep true
 
 -- an exchange of `old` that saw v; a weak one also fails when the flag asks
 abbrev pub strong : ℕ → ℕ → Effect → Effect → Effect
@@ -102,10 +119,11 @@ examineFrom g k r = examineAt g (stolenFrom (r .stolen) k (g .shards - k)) r
 
 -- a node was examined or reclaimed, and `rest` is what is left of its list
 unfoldable pub examined : Settings → ℕ → Row → Row
-examined g rest r = pick (eqb rest 0) (pick (eqb (r .reclaimable) 0) (examineFrom g (shardIn r + 1) r) (goTo Pc.Reclaim r)) r
+examined g rest r =
+    pick (eqb rest 0) (pick (eqb (r .reclaimable) 0) (examineFrom g (shardIn r + 1) r) (goTo Pc.Reclaim r)) r
 
-unfoldable pub reclaimed : Settings → ℕ → Row → Row
-reclaimed g rest r = pick (eqb rest 0) (examineFrom g (shardIn r + 1) r) r
+unfoldable pub afterFree : Settings → ℕ → Row → Row
+afterFree g rest r = pick (eqb rest 0) (examineFrom g (shardIn r + 1) r) r
 
 -- shutdown's next shard, or its last step
 unfoldable pub shutNext : Settings → Row → Row
@@ -127,66 +145,88 @@ rule Pc.A1 r = at (by.Load cell.HeadAvailable) λ g i.
     (pick (eqb (i .v) 0) (becomes (goTo Pc.N1 r)) (becomes (goTo Pc.A2 (withRec (i .v / 2) r))))
 rule Pc.A2 r = at (by.Update cell.HeadAvailable) λ g i.
     pick (eqb (r .rec) 0) (damaged r)
-    (weak (i .v) (r .rec * 2) (i .flag) (stores (withLock (r .rec * 2)) (becomes (goTo Pc.A3 r))) (becomes (goTo Pc.A1 r)))
+    (weak (i .v) (r .rec * 2) (i .flag) (stores (withLock (r .rec * 2)) (becomes (goTo Pc.A3 r)))
+    (becomes (goTo Pc.A1 r)))
 rule Pc.A3 r = at (by.Load (cell.AvailableNext (r .rec))) λ g i. becomes (goTo Pc.A4 (withNext (i .v) r))
 rule Pc.A4 r = at (by.Store cell.HeadAvailable) λ g i. stores (r .next * 2) (becomes (goTo Pc.A5 r))
 rule Pc.A5 r = at (by.Store (cell.AvailableNext (r .rec))) λ g i. stores 0 (becomes (goTo Pc.A6 r))
-rule Pc.A6 r = at (by.Load (cell.AvailableNext (r .rec))) λ g i. also (cell.Holder (r .rec)) (i .thread + 2) (done (r .rec))
+rule Pc.A6 r = at (by.Load (cell.AvailableNext (r .rec))) λ g i.
+    alsoStores (cell.Holder (r .rec)) (i .thread + 2) (finishes (r .rec))
 rule Pc.N1 r = at (by.Load cell.RecordHead) λ g i.
     pick (eqb (i .untaken) 0) (ends 26)
-    (also (cell.Holder (i .untaken)) 1 (becomes (goTo Pc.N2 (withRec (i .untaken) (withNext (i .v) r)))))
+    (alsoStores (cell.Holder (i .untaken)) 1 (becomes (goTo Pc.N2 (withRec (i .untaken) (withNext (i .v) r)))))
 rule Pc.N2 r = at (by.Update cell.RecordHead) λ g i.
     weak (i .v) (r .next) (i .flag)
-    (stores (r .rec) (also (cell.RecordNext (r .rec)) (r .next) (becomes (goTo Pc.N3 r))))
-    (also (cell.RecordNext (r .rec)) (r .next) (becomes (withNext (i .v) r)))
-rule Pc.N3 r = at (by.Update cell.RecordCount) λ g i. stores (plus (i .x) 1) (also (cell.Holder (r .rec)) (i .thread + 2) (done (r .rec)))
+    (stores (r .rec) (alsoStores (cell.RecordNext (r .rec)) (r .next) (becomes (goTo Pc.N3 r))))
+    (alsoStores (cell.RecordNext (r .rec)) (r .next) (becomes (withNext (i .v) r)))
+rule Pc.N3 r = at (by.Update cell.RecordCount) λ g i.
+    stores (plus (i .x) 1) (alsoStores (cell.Holder (r .rec)) (i .thread + 2) (finishes (r .rec)))
 -- release
 rule Pc.D1 r = at (by.HazardStore (cell.Hazard (r .rec))) λ g i. stores 0 (becomes (goTo Pc.D2 r))
-rule Pc.D2 r = at (by.Load (cell.AvailableNext (r .rec))) λ g i. pick (eqb (i .v) 0) (becomes (goTo Pc.P1 r)) (damaged r)
-rule Pc.P1 r = at (by.Load cell.HeadAvailable) λ g i. pick (locked (i .v)) (becomes r) (becomes (goTo Pc.P2 (withNext (i .v / 2) r)))
+rule Pc.D2 r = at (by.Load (cell.AvailableNext (r .rec))) λ g i.
+    pick (eqb (i .v) 0) (becomes (goTo Pc.P1 r)) (damaged r)
+rule Pc.P1 r = at (by.Load cell.HeadAvailable) λ g i.
+    pick (locked (i .v)) (becomes r) (becomes (goTo Pc.P2 (withNext (i .v / 2) r)))
 rule Pc.P2 r = at (by.Store (cell.AvailableNext (r .rec))) λ g i. stores (r .next) (becomes (goTo Pc.P3 r))
 rule Pc.P3 r = at (by.Update cell.HeadAvailable) λ g i.
     pick (eqb (r .rec) 0) (damaged r)
-    (weak (i .v) (r .next * 2) (i .flag) (stores (r .rec * 2) (done 0)) (becomes (goTo Pc.P1 r)))
+    (weak (i .v) (r .next * 2) (i .flag) (stores (r .rec * 2) (finishes 0)) (becomes (goTo Pc.P1 r)))
 -- protect (operation 3) and the tries
 rule Pc.V0 r = at (by.Load (cell.Source (r .source))) λ g i. becomes (goTo Pc.V1 (withNode (i .v) r))
 rule Pc.V1 r = at (by.HazardStore (cell.Hazard (r .rec))) λ g i. stores (r .node) (becomes (goTo Pc.V2 r))
-rule Pc.V2 r = at (by.Load (cell.Source (r .source))) λ g i. pick (eqb (i .v) (r .node)) (done (i .v)) (becomes (goTo Pc.V3 (seeing (i .v) r)))
-rule Pc.V3 r = at (by.HazardStore (cell.Hazard (r .rec))) λ g i. pick (eqb (r .operation) 3) (stores 0 (becomes (goTo Pc.V1 (withNode (r .seen) r)))) (stores 0 (retry (r .seen)))
-rule Pc.Reset r = at (by.HazardStore (cell.Hazard (r .rec))) λ g i. stores 0 (done 0)
-rule Pc.Raw r = at (by.HazardStore (cell.Hazard (r .rec))) λ g i. stores (r .node) (done 0)
+rule Pc.V2 r = at (by.Load (cell.Source (r .source))) λ g i.
+    pick (eqb (i .v) (r .node)) (finishes (i .v)) (becomes (goTo Pc.V3 (seeing (i .v) r)))
+rule Pc.V3 r = at (by.HazardStore (cell.Hazard (r .rec))) λ g i.
+    pick (eqb (r .operation) 3) (stores 0 (becomes (goTo Pc.V1 (withNode (r .seen) r)))) (stores 0 (retry (r .seen)))
+rule Pc.Reset r = at (by.HazardStore (cell.Hazard (r .rec))) λ g i. stores 0 (finishes 0)
+rule Pc.Raw r = at (by.HazardStore (cell.Hazard (r .rec))) λ g i. stores (r .node) (finishes 0)
 -- swap: w is the new node's state
 rule Pc.Swap r = at (by.Update (cell.Source (r .source))) λ g i.
     pick (eqb (i .w) 2) (ends 25)
-    (pick (eqb (r .node) 0) (stores 0 (done (i .v)))
-    (pick (eqb (i .w) 0) (stores (r .node) (also (cell.NodeState (r .node)) 1 (done (i .v)))) (stores (r .node) (done (i .v)))))
+    (pick (eqb (r .node) 0) (stores 0 (finishes (i .v)))
+    (pick (eqb (i .w) 0) (stores (r .node) (alsoStores (cell.NodeState (r .node)) 1 (finishes (i .v))))
+    (stores (r .node) (finishes (i .v)))))
 -- retire
 rule Pc.T1 r = at (by.Load (cell.ShardHead (r .shard))) λ g i. becomes (goTo Pc.T2 (seeing (i .v) r))
 rule Pc.T2 r = at (by.Update (cell.ShardHead (r .shard))) λ g i.
     weak (i .v) (r .seen) (i .flag)
-    (stores (r .lone) (also (cell.NodeNext (r .lone)) (r .seen) (becomes (goTo Pc.T3 (withLone 0 r)))))
-    (also (cell.NodeNext (r .lone)) (r .seen) (becomes (seeing (i .v) r)))
+    (stores (r .lone) (alsoStores (cell.NodeNext (r .lone)) (r .seen) (becomes (goTo Pc.T3 (withLone 0 r)))))
+    (alsoStores (cell.NodeNext (r .lone)) (r .seen) (becomes (seeing (i .v) r)))
 rule Pc.T3 r = at (by.Update cell.Count) λ g i. stores (plus (i .x) 1) (becomes (goTo Pc.K1 r))
 -- Check
 rule Pc.K1 r = at (by.Load cell.Count) λ g i. becomes (goTo Pc.K2 (counting (i .x) r))
-rule Pc.K2 r = at (by.Load cell.RecordCount) λ g i. pick (over g (r .count) (i .x)) (becomes (goTo Pc.K3 r)) (becomes (checked (taking 0 r)))
-rule Pc.K3 r = at (by.Update cell.Count) λ g i. weak (i .x) (r .count) (i .flag) (stores 0 (becomes (goTo Pc.K4 (taking (r .count) r)))) (becomes (goTo Pc.K2 (counting (i .x) r)))
+rule Pc.K2 r = at (by.Load cell.RecordCount) λ g i.
+    pick (over g (r .count) (i .x)) (becomes (goTo Pc.K3 r)) (becomes (checked (taking 0 r)))
+rule Pc.K3 r = at (by.Update cell.Count) λ g i.
+    weak (i .x) (r .count) (i .flag) (stores 0 (becomes (goTo Pc.K4 (taking (r .count) r))))
+    (becomes (goTo Pc.K2 (counting (i .x) r)))
 rule Pc.K4 r = at (by.Store cell.DueTime) λ g i. stores (dueTime (i .clock)) (becomes (checked r))
-rule Pc.E1 r = at (by.Load cell.DueTime) λ g i. pick (g .due (i .clock) (i .x)) (becomes (goTo Pc.E2 (dated (i .x) (i .clock) r))) (done 0)
-rule Pc.E2 r = at (by.Update cell.DueTime) λ g i. strong (i .x) (r .due) (stores (dueTime (r .clock)) (becomes (goTo Pc.E3 r))) (done 0)
-rule Pc.E3 r = at (by.Update cell.Count) λ g i. pick (eqb (i .x) 0) (stores 0 (done 0)) (stores 0 (becomes (goTo Pc.B1 (taking (i .x) r))))
+rule Pc.E1 r = at (by.Load cell.DueTime) λ g i.
+    pick (g .due (i .clock) (i .x)) (becomes (goTo Pc.E2 (dated (i .x) (i .clock) r))) (finishes 0)
+rule Pc.E2 r = at (by.Update cell.DueTime) λ g i.
+    strong (i .x) (r .due) (stores (dueTime (r .clock)) (becomes (goTo Pc.E3 r))) (finishes 0)
+rule Pc.E3 r = at (by.Update cell.Count) λ g i.
+    pick (eqb (i .x) 0) (stores 0 (finishes 0)) (stores 0 (becomes (goTo Pc.B1 (taking (i .x) r))))
 -- Reclaim
 rule Pc.B1 r = at (by.Update cell.BulkReclaims) λ g i. stores (plus (i .x) 1) (becomes (newPass r))
 rule Pc.Steal r = at (by.Update (cell.ShardHead (r .shard))) λ g i.
     pick (eqb (shardIn r + 1) (g .shards))
-    (pick (eqb (stolenFrom (stealing (i .v) r .stolen) 0 (g .shards)) (g .shards)) (stores 0 (becomes (passed (withDone 2 (stealing (i .v) r))))) (stores 0 (becomes (goTo Pc.H1 (stealing (i .v) r)))))
+    (pick (eqb (stolenFrom (stealing (i .v) r .stolen) 0 (g .shards)) (g .shards))
+    (stores 0 (becomes (passed (withDone 2 (stealing (i .v) r)))))
+    (stores 0 (becomes (goTo Pc.H1 (stealing (i .v) r)))))
     (stores 0 (becomes (inShard (shardIn r + 1) (stealing (i .v) r))))
-rule Pc.H1 r = at (by.Load cell.RecordHead) λ g i. pick (eqb (i .v) 0) (clearsGuards (examineFrom g 0 r)) (clearsGuards (goTo Pc.H2 (withRec (i .v) r)))
-rule Pc.H2 r = at (by.Load (cell.Hazard (r .rec))) λ g i. pick (eqb (i .w) 0) (guarding (i .v) (examineFrom g 0 r)) (guarding (i .v) (withRec (i .w) r))
+rule Pc.H1 r = at (by.Load cell.RecordHead) λ g i.
+    pick (eqb (i .v) 0) (clearsGuards (examineFrom g 0 r)) (clearsGuards (goTo Pc.H2 (withRec (i .v) r)))
+rule Pc.H2 r = at (by.Load (cell.Hazard (r .rec))) λ g i.
+    pick (eqb (i .w) 0) (guarding (i .v) (examineFrom g 0 r)) (guarding (i .v) (withRec (i .w) r))
 rule Pc.Examine r = at (by.Private (cell.NodeNext (first r))) λ g i.
-    pick (i .guarded) (stores (r .unreclaimed) (becomes (examined g (i .v) (keeping (first r) (pick (eqb (r .unreclaimed) 0) (first r) (r .tail)) (stealing (i .v) r)))))
+    pick (i .guarded)
+    (stores (r .unreclaimed)
+    (becomes (examined g (i .v)
+    (keeping (first r) (pick (eqb (r .unreclaimed) 0) (first r) (r .tail)) (stealing (i .v) r)))))
     (stores (r .reclaimable) (becomes (examined g (i .v) (reclaiming (first r) (stealing (i .v) r)))))
-rule Pc.Reclaim r = at (by.Private (cell.NodeNext (r .reclaimable))) λ g i. reclaims (r .reclaimable) (reclaimed g (i .v) (freeing (reclaiming (i .v) r)))
+rule Pc.Reclaim r = at (by.Private (cell.NodeNext (r .reclaimable))) λ g i.
+    reclaims (r .reclaimable) (afterFree g (i .v) (freeing (reclaiming (i .v) r)))
 rule Pc.Empty r = at (by.Load (cell.ShardHead (r .shard))) λ g i.
     pick (eqb (i .v) 0)
     (pick (eqb (shardIn r + 1) (g .shards)) (becomes (emptied (withDone 2 r))) (becomes (inShard (shardIn r + 1) r)))
@@ -195,14 +235,19 @@ rule Pc.Push1 r = at (by.Load (cell.ShardHead 0)) λ g i. becomes (goTo Pc.Push2
 rule Pc.Push2 r = at (by.Update (cell.ShardHead 0)) λ g i.
     pick (eqb (r .unreclaimed) 0) (damaged r)
     (weak (i .v) (r .seen) (i .flag)
-    (stores (r .unreclaimed) (also (cell.NodeNext (r .tail)) (r .seen) (becomes (passed (keeping 0 0 r)))))
-    (also (cell.NodeNext (r .tail)) (r .seen) (becomes (seeing (i .v) r))))
+    (stores (r .unreclaimed) (alsoStores (cell.NodeNext (r .tail)) (r .seen) (becomes (passed (keeping 0 0 r)))))
+    (alsoStores (cell.NodeNext (r .tail)) (r .seen) (becomes (seeing (i .v) r))))
 rule Pc.C1 r = at (by.Update cell.Count) λ g i. stores (plus (i .x) (r .rcount)) (becomes (goTo Pc.K1 (taking 0 r)))
-rule Pc.C3 r = at (by.Update cell.BulkReclaims) λ g i. pick (eqb (r .operation) 11) (stores (less (i .x) 1) (becomes (goTo Pc.Wait r))) (stores (less (i .x) 1) (done (r .total)))
-rule Pc.Wait r = at (by.Load cell.BulkReclaims) λ g i. pick (eqb (i .x) 0) (done 0) (becomes r)
+rule Pc.C3 r = at (by.Update cell.BulkReclaims) λ g i.
+    pick (eqb (r .operation) 11) (stores (less (i .x) 1) (becomes (goTo Pc.Wait r)))
+    (stores (less (i .x) 1) (finishes (r .total)))
+rule Pc.Wait r = at (by.Load cell.BulkReclaims) λ g i. pick (eqb (i .x) 0) (finishes 0) (becomes r)
 -- shutdown
-rule Pc.S1 r = at (by.Update (cell.ShardHead (r .shard))) λ g i. pick (eqb (i .v) 0) (stores 0 (becomes (shutNext g r))) (stores 0 (becomes (goTo Pc.S2 (reclaiming (i .v) r))))
-rule Pc.S2 r = at (by.Private (cell.NodeNext (r .reclaimable))) λ g i. reclaims (r .reclaimable) (pick (eqb (i .v) 0) (shutNext g (freed (reclaiming (i .v) r))) (freed (reclaiming (i .v) r)))
+rule Pc.S1 r = at (by.Update (cell.ShardHead (r .shard))) λ g i.
+    pick (eqb (i .v) 0) (stores 0 (becomes (shutNext g r))) (stores 0 (becomes (goTo Pc.S2 (reclaiming (i .v) r))))
+rule Pc.S2 r = at (by.Private (cell.NodeNext (r .reclaimable))) λ g i.
+    reclaims (r .reclaimable)
+    (pick (eqb (i .v) 0) (shutNext g (freed (reclaiming (i .v) r))) (freed (reclaiming (i .v) r)))
 rule Pc.S3 r = at (by.Store cell.Shutdown) λ g i. closing (r .total)
 rule Pc.Unknown r = at (by.Load cell.Nothing) λ g i. damaged r
 

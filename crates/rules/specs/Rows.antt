@@ -47,7 +47,8 @@ abbrev pub words32 : Row → List ℕ
 words32 r =
     r .place ∷ r .operation ∷ r .rec ∷ r .next ∷ r .source ∷ r .node ∷ r .seen ∷ r .shard ∷ r .lone ∷ r .reclaimable
     ∷ r .unreclaimed ∷ r .tail ∷ r .done ∷ getD (r .stolen) 0 0 ∷ getD (r .stolen) 1 0 ∷ getD (r .stolen) 2 0
-    ∷ getD (r .stolen) 3 0 ∷ getD (r .stolen) 4 0 ∷ getD (r .stolen) 5 0 ∷ getD (r .stolen) 6 0 ∷ getD (r .stolen) 7 0 ∷ []
+    ∷ getD (r .stolen) 3 0 ∷ getD (r .stolen) 4 0 ∷ getD (r .stolen) 5 0 ∷ getD (r .stolen) 6 0
+    ∷ getD (r .stolen) 7 0 ∷ []
 
 abbrev pub words64 : Row → List ℕ
 words64 r = r .count ∷ r .rcount ∷ r .total ∷ r .due ∷ r .clock ∷ []

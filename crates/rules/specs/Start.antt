@@ -15,7 +15,8 @@ use Rattle.rules.specs.Rows.{stored32, stored64, idle, with}
 use Rattle.rules.specs.Field
 use Rattle.rules.specs.Step.{State, state, Out, out, answer, refused, sizes, atIn, written}
 use Rattle.rules.specs.declared.Operation.{Operation}
-use Rattle.rules.specs.declared.Operation.the-variants.{Acquire, Release, Protect, Try, TryProtect, Reset, Raw, Swap, Retire, Eager, Cleanup, Shutdown}
+use Rattle.rules.specs.declared.Operation.the-variants.{Acquire, Release, Protect, Try, TryProtect, Reset, Raw}
+use Rattle.rules.specs.declared.Operation.the-variants.{Swap, Retire, Eager, Cleanup, Shutdown}
 use Rattle.rules.specs.declared.Named.{Named}
 use Rattle.rules.specs.declared.Named.the-variants as cell
 use Rattle.rules.specs.declared.Row.{Row}
@@ -54,7 +55,8 @@ notNode n = pick (ltb nodes n) 24 0
 
 -- 24 for null too; 25: not live, or in a source; 29: a source is damaged
 abbrev pub retireBy : ℕ → ℕ → Bool → Bool → ℕ
-retireBy n state linked damaged = pick (eqb n 0) 24 (pick (ltb nodes n) 24 (pick (eqb state 1) (pick linked 25 (pick damaged 29 0)) 25))
+retireBy n state linked damaged =
+    pick (eqb n 0) 24 (pick (ltb nodes n) 24 (pick (eqb state 1) (pick linked 25 (pick damaged 29 0)) 25))
 
 unfoldable pub notRetirable : List ℕ → List ℕ → ℕ → ℕ
 notRetirable sources′ state n =
@@ -74,7 +76,8 @@ refusal records sources state rows32 t Acquire = 0
 refusal records sources state rows32 t (Release a) = notOwned records t a
 refusal records sources state rows32 t (Protect a b) = orElse (notOwned records t a) (notSource b)
 refusal records sources state rows32 t (Try a b n) = orElse (notOwned records t a) (orElse (notSource b) (notNode n))
-refusal records sources state rows32 t (TryProtect a b n) = orElse (notOwned records t a) (orElse (notSource b) (notNode n))
+refusal records sources state rows32 t (TryProtect a b n) =
+    orElse (notOwned records t a) (orElse (notSource b) (notNode n))
 refusal records sources state rows32 t (Reset a) = notOwned records t a
 refusal records sources state rows32 t (Raw a n) = orElse (notOwned records t a) (notNode n)
 refusal records sources state rows32 t (Swap b n) = orElse (notSource b) (notNode n)
@@ -107,7 +110,8 @@ entry r c v = record { row = r; cell = c; put = v }
 abbrev pub quietly : ℕ → ℕ → ℕ → ℕ → ℕ → Entry
 quietly operation place rec source node = entry (freshAt operation place rec source node 0 0) cell.Nothing 0
 
--- a release gives up the record, a retire makes its node waiting, a shutdown sets the mark; the operation is kept as its kind in a frame
+-- a release gives up the record, a retire makes its node waiting, a shutdown sets the mark; the operation is kept as
+-- its kind in a frame
 unfoldable pub begins : Settings → Operation → Entry
 begins g Acquire = quietly 1 (code Pc.A1) 0 0 0
 begins g (Release a) = entry (freshAt 2 (code Pc.D1) a 0 0 0 0) (cell.Holder a) 1
@@ -123,7 +127,9 @@ begins g Cleanup = quietly 11 (code Pc.B1) 0 0 0
 begins g Shutdown = entry (freshAt 12 (code Pc.S1) 0 0 0 0 0) cell.Shutdown 1
 
 unfoldable pub entered : State → ℕ → Entry → State
-entered s t e = state (written (s .cells) (address (e .cell)) (e .put)) (stored32 (s .rows32) t (e .row)) (stored64 (s .rows64) t (e .row)) (s .guards)
+entered s t e =
+    state (written (s .cells) (address (e .cell)) (e .put)) (stored32 (s .rows32) t (e .row))
+    (stored64 (s .rows64) t (e .row)) (s .guards)
 
 -- ---- the start: `try_protect` (5) of null is done at once
 abbrev pub ofNull : Entry → Bool

@@ -5,7 +5,8 @@ use mathlib.Core.List.{List, [], _∷_, _++_}
 use lib.ListN.{length, getD, set, take, drop, replicate}
 use lib.Dec.{eqb, ltb, leb}
 use Rattle.base.specs.Pick.{pick, both}
-use Rattle.rules.specs.Sizes.{records, sources, nodes, threads, words, row32, row64, headCells, counterCells, fromSources, fromRecords, fromRows, steps, Settings}
+use Rattle.rules.specs.Sizes.{records, sources, nodes, threads, words, row32, row64, headCells, counterCells}
+use Rattle.rules.specs.Sizes.{fromSources, fromRecords, fromRows, steps, Settings}
 use Rattle.rules.specs.Words.{isGuarded, guardedAlso, noneGuarded, plus}
 use Rattle.rules.specs.Pc
 use Rattle.rules.specs.Pc.{code}
@@ -52,7 +53,8 @@ sharedIn ids next state words =
     (part fromSources sources ids) next state
 
 unfoldable pub lent : List ℕ → List ℕ → List ℕ → List ℕ → List ℕ → State
-lent ids next state′ words guards = state (sharedIn ids next state′ words) (drop fromRows ids) (drop counterCells words) guards
+lent ids next state′ words guards =
+    state (sharedIn ids next state′ words) (drop fromRows ids) (drop counterCells words) guards
 
 pub record Out : Type 0 where
   pub answer : Answer
@@ -79,7 +81,8 @@ sizes s =
 -- ---- one cell
 unfoldable pub fetched : Shared → Cell → ℕ
 fetched s c =
-    getD (getD ([] ∷ s .heads ∷ s .counters ∷ s .records ∷ s .sources ∷ s .next ∷ s .state ∷ []) (c .table) []) (c .at) 0
+    let tables = [] ∷ s .heads ∷ s .counters ∷ s .records ∷ s .sources ∷ s .next ∷ s .state ∷ [] in
+    getD (getD tables (c .table) []) (c .at) 0
 
 -- where the cell stands in table k; past every table's end if it is of another
 abbrev pub atIn : Cell → ℕ → ℕ
@@ -111,12 +114,24 @@ abbrev pub guardsPut : List ℕ → ℕ → List ℕ → List ℕ
 guardsPut g t p = take (t * words) g ++ (p ++ drop words (drop (t * words) g))
 
 abbrev pub seen : ℕ → ℕ → ℕ → Bool → ℕ → Bool → ℕ → Seen
-seen x y untaken guarded t flag clock = record { x = x; v = x % 2 ^ 32; y = y; w = y % 2 ^ 32; untaken = untaken; guarded = guarded; thread = t; flag = flag; clock = clock }
+seen x y untaken guarded t flag clock =
+    record {
+      x = x;
+      v = x % 2 ^ 32;
+      y = y;
+      w = y % 2 ^ 32;
+      untaken = untaken;
+      guarded = guarded;
+      thread = t;
+      flag = flag;
+      clock = clock;
+    }
 
 -- the row's step reads its cell c, and l beside it
 unfoldable pub readBy : State → ℕ → Bool → ℕ → Row → Cell → Cell → ℕ → Seen
 readBy s t flag clock r c l untaken =
-    seen (fetched (s .cells) c) (fetched (s .cells) l) untaken (isGuarded (guardsOf (s .guards) t) (first r)) t flag clock
+    let guarded = isGuarded (guardsOf (s .guards) t) (first r) in
+    seen (fetched (s .cells) c) (fetched (s .cells) l) untaken guarded t flag clock
 
 -- 25 and 26 come before 29
 abbrev pub judge : Row → Bool → Effect → Effect
@@ -124,7 +139,10 @@ judge r fits e = pick (eqb (e .number) 25) e (pick (eqb (e .number) 26) e (pick 
 
 -- 29 where something that the step reads is out of its range, or a cell that it needs is none
 unfoldable pub judged : Row → Bool → Cell → Cell → Seen → Effect → Effect
-judged r fits c l i e = judge r (both fits (both (inRange (c .class) (i .x)) (both (inRange (l .class) (i .y)) (inRange (address (e .also) .class) 0)))) e
+judged r fits c l i e =
+    judge r
+    (both fits (both (inRange (c .class) (i .x))
+    (both (inRange (l .class) (i .y)) (inRange (address (e .also) .class) 0)))) e
 
 unfoldable pub lookBy : Settings → State → ℕ → Bool → ℕ → Row → Cell → Cell → ℕ → Effect
 lookBy g s t flag clock r c l untaken =
@@ -139,25 +157,30 @@ lookOf g s t flag clock r =
 abbrev pub closed : Shared → Bool → Shared
 closed s b =
     pick b
-    (shared (set (set (s .heads) 0 0) 1 0) (s .counters) (replicate (length (s .records)) 0) (s .sources) (s .next) (s .state)) s
+    (shared (set (set (s .heads) 0 0) 1 0) (s .counters) (replicate (length (s .records)) 0) (s .sources)
+    (s .next) (s .state)) s
 
 abbrev pub ticked : Shared → Shared
 ticked s =
-    shared (s .heads) (set (s .counters) 4 (plus (getD (s .counters) 4 0) 1)) (s .records) (s .sources) (s .next) (s .state)
+    shared (s .heads) (set (s .counters) 4 (plus (getD (s .counters) 4 0) 1)) (s .records) (s .sources)
+    (s .next) (s .state)
 
 unfoldable pub cellsGiven : Shared → Cell → Effect → Shared
-cellsGiven s c e = ticked (closed (written (written s (pick (e .writes) c nothing) (e .put)) (address (e .also)) (e .to)) (e .closes))
+cellsGiven s c e =
+    ticked (closed (written (written s (pick (e .writes) c nothing) (e .put)) (address (e .also)) (e .to)) (e .closes))
 
-unfoldable pub guarded : List ℕ → Guards → List ℕ
-guarded set guards.Keep = set
-guarded set guards.Clear = noneGuarded set
-guarded set (guards.Set n) = guardedAlso set n
+unfoldable pub guardsAfter : List ℕ → Guards → List ℕ
+guardsAfter set guards.Keep = set
+guardsAfter set guards.Clear = noneGuarded set
+guardsAfter set (guards.Set n) = guardedAlso set n
 
 unfoldable pub guardsGiven : List ℕ → ℕ → Guards → List ℕ
-guardsGiven g t m = guardsPut g t (guarded (guardsOf g t) m)
+guardsGiven g t m = guardsPut g t (guardsAfter (guardsOf g t) m)
 
 unfoldable pub given : State → ℕ → Cell → Effect → State
-given s t c e = state (cellsGiven (s .cells) c e) (stored32 (s .rows32) t (e .row)) (stored64 (s .rows64) t (e .row)) (guardsGiven (s .guards) t (e .guards))
+given s t c e =
+    state (cellsGiven (s .cells) c e) (stored32 (s .rows32) t (e .row)) (stored64 (s .rows64) t (e .row))
+    (guardsGiven (s .guards) t (e .guards))
 
 -- ---- the step
 abbrev pub takeBy : State → ℕ → Cell → Effect → Out

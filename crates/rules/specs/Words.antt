@@ -24,7 +24,8 @@ unfoldable pub isGuarded : List ℕ → ℕ → Bool
 isGuarded words n = pick (eqb n 0) false (eqb (getD words ((n - 1) / 64) 0 / 2 ^ ((n - 1) % 64) % 2) 1)
 
 unfoldable pub guardedAlso : List ℕ → ℕ → List ℕ
-guardedAlso words n = pick (eqb n 0) words (set words ((n - 1) / 64) (bitOr (getD words ((n - 1) / 64) 0) (2 ^ ((n - 1) % 64))))
+guardedAlso words n =
+    pick (eqb n 0) words (set words ((n - 1) / 64) (bitOr (getD words ((n - 1) / 64) 0) (2 ^ ((n - 1) % 64))))
 
 unfoldable pub noneGuarded : List ℕ → List ℕ
 noneGuarded words = replicate (length words) 0

@@ -13,7 +13,7 @@ use Rattle.rules.specs.Words.{withLock}
 use Rattle.rules.specs.Pc
 use Rattle.rules.specs.Pc.{Pc}
 use Rattle.rules.specs.Rows.{shardIn, stealing}
-use Rattle.rules.specs.Places.{accesses, does, also, ends, damaged}
+use Rattle.rules.specs.Places.{accesses, does, alsoStores, ends, damaged}
 use Rattle.rules.specs.declared.Row.{Row}
 use Rattle.rules.specs.declared.Seen.{Seen}
 use Rattle.rules.specs.declared.Effect.{Effect}

@@ -8,7 +8,7 @@ use native.Mathlib.Omega.{arith}
 use lib.ListN.{List·getD-eq-default}
 use Rattle.base.specs.Pick.{pick}
 use Rattle.rules.specs.Pc
-use Rattle.rules.specs.Pc.{Pc, Pc-discrete, places, pcOf, code}
+use Rattle.rules.specs.Pc.{Pc, Pc-discrete, order, pcOf, code}
 use Rattle.rules.specs.declared.Effect.{Effect}
 use Rattle.rules.specs.declared.Operation.{Operation}
 use Rattle.rules.specs.declared.Operation.the-variants.{Acquire, Release, Protect, Try, TryProtect, Reset, Raw, Swap, Retire, Eager, Cleanup, Shutdown}
@@ -97,7 +97,7 @@ every P s p = subst P (pc-of-code p) (at (decLt (code p) 64))
   where
     at : Dec (code p < 64) → P (pcOf (code p))
     at (yes q) = let e : 0 + code p ≡ code p = omega arith in subst (λ (n : ℕ). P (pcOf n)) e (span-at P 6 0 (code p) q s)
-    at (no q) = subst P (sym (List·getD-eq-default places Pc.Unknown {n = code p} (omega arith))) (span-at P 6 0 63 (omega arith) s)
+    at (no q) = subst P (sym (List·getD-eq-default order Pc.Unknown {n = code p} (omega arith))) (span-at P 6 0 63 (omega arith) s)
 
 -- two of anything are the same where nothing can be
 pub never : {A : Type 0} {x y : A} → ⊥ → x ≡ y

@@ -16,7 +16,7 @@ use Rattle.rules.specs.Cells.{address, accessed, cellAt, inRange, unread, nothi
 use Rattle.rules.specs.declared.Class.the-variants.{Anything}
 use Rattle.rules.specs.Rows.{idle, rowAt, stored32, stored64}
 use Rattle.rules.specs.Places.{ends}
-use Rattle.rules.specs.Step.{Shared, State, state, sizes, written, closed, ticked, cellsGiven, guardsOf, guardsPut, guarded, guardsGiven, given}
+use Rattle.rules.specs.Step.{Shared, State, state, sizes, written, closed, ticked, cellsGiven, guardsOf, guardsPut, guardsAfter, guardsGiven, given}
 use Rattle.rules.specs.Start.{entered}
 use Rattle.rules.specs.declared.Cell.{Cell}
 use Rattle.rules.specs.declared.Row.{Row}
@@ -218,8 +218,8 @@ module _ (g p : List ℕ) (t : ℕ) (ht : t < threads) (hg : length g ≡ words 
   guards-put : guardsIn (guardsPut g t p) ≡ set (guardsIn g) t p
   guards-put = tab-set threads (λ u. guardsOf g u) (λ u. guardsOf (guardsPut g t p) u) t p ht put-same put-other
 
-pub guards-length : (p : List ℕ) (m : Guards) → length (guarded p m) ≡ length p
-unfolding guarded
+pub guards-length : (p : List ℕ) (m : Guards) → length (guardsAfter p m) ≡ length p
+unfolding guardsAfter
 guards-length p guards.Keep = refl
 guards-length p guards.Clear = none-length p
 guards-length p (guards.Set n) = guarded-length p n
@@ -231,13 +231,13 @@ module _ (l : List ℕ) (t : ℕ) (ht : t < threads) (hl : length l ≡ words * 
   pub guards-get : getD (guardsIn l) t [] ≡ guardsOf l t
   guards-get = tab-get threads (λ u. guardsOf l u) t [] ht
 
-  guards-view : (m : Guards) → guardsIn (guardsGiven l t m) ≡ set (guardsIn l) t (guarded (getD (guardsIn l) t []) m)
+  guards-view : (m : Guards) → guardsIn (guardsGiven l t m) ≡ set (guardsIn l) t (guardsAfter (getD (guardsIn l) t []) m)
   unfolding guardsGiven
-  guards-view m = guards-put l (guarded (guardsOf l t) m) t ht hl (guards-length (guardsOf l t) m ∙ own-length) ∙ ap (λ (x : List ℕ). set (guardsIn l) t (guarded x m)) (sym guards-get)
+  guards-view m = guards-put l (guardsAfter (guardsOf l t) m) t ht hl (guards-length (guardsOf l t) m ∙ own-length) ∙ ap (λ (x : List ℕ). set (guardsIn l) t (guardsAfter x m)) (sym guards-get)
 
   guards-sized : (m : Guards) → length (guardsGiven l t m) ≡ words * threads
   unfolding guardsGiven
-  guards-sized m = put-length l (guarded (guardsOf l t) m) t ht hl (guards-length (guardsOf l t) m ∙ own-length) ∙ hl
+  guards-sized m = put-length l (guardsAfter (guardsOf l t) m) t ht hl (guards-length (guardsOf l t) m ∙ own-length) ∙ hl
 
 pub guard-words : (s : State) → Sized s → (t : ℕ) → t < threads → length (getD (viewOf s .guards) t []) ≡ words
 unfolding viewOf
@@ -282,7 +282,7 @@ abbrev pub idled : State → ℕ → State
 idled s t = state (ticked (s .cells)) (stored32 (s .rows32) t idle) (stored64 (s .rows64) t idle) (s .guards)
 
 pub given-ends : (s : State) → Sized s → (t : ℕ) (c : Cell) (n : ℕ) → given s t c (ends n) ≡ idled s t
-unfolding given cellsGiven guardsGiven guarded address
+unfolding given cellsGiven guardsGiven guardsAfter address
 given-ends s z t c n = λ i. state (ticked (kept i)) (stored32 (s .rows32) t idle) (stored64 (s .rows64) t idle) (own i)
   where
     kept : written (written (s .cells) nothing 0) nothing 0 ≡ s .cells

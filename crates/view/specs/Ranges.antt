@@ -13,7 +13,7 @@ use native.Mathlib.Omega.{arith}
 use Rattle.base.specs.Pick.{pick, both, is-both}
 use Rattle.rules.specs.Sizes.{records, sources, nodes, threads, row32, Settings}
 use Rattle.rules.specs.Pc
-use Rattle.rules.specs.Pc.{Pc, places, pcOf, code}
+use Rattle.rules.specs.Pc.{Pc, order, pcOf, code}
 use Rattle.rules.specs.Cells.{address, accessed, unread, cellAt, nowhere, inRange}
 use Rattle.rules.specs.declared.Class.{Class}
 use Rattle.rules.specs.declared.Class.the-variants.{Anything, NoCell}
@@ -236,4 +236,4 @@ counted-at (x ∷ l) k zero d h q = let e = eqb-true x k (is-both (eqb x k) (cou
 counted-at (x ∷ l) k (suc n) d h q = let e = counted-at l (suc k) n d (is-both (eqb x k) (counted l (suc k)) h .1) (le-of-suc-le-suc q) in omega arith
 
 pub code-of : (n : ℕ) → n ≤ code Pc.S3 → code (pcOf n) ≡ n
-code-of n h = sym (List·getD-map code places n Pc.Unknown) ∙ counted-at (map code places) 0 n (code Pc.Unknown) refl (omega arith) ∙ omega arith
+code-of n h = sym (List·getD-map code order n Pc.Unknown) ∙ counted-at (map code order) 0 n (code Pc.Unknown) refl (omega arith) ∙ omega arith

@@ -4,7 +4,7 @@ use lib.Dec.{eqb}
 use Rattle.rules.specs.Sizes.{Settings}
 use Rattle.rules.specs.Pc
 use Rattle.rules.specs.Rows.{goTo, inShard, shardIn, stolenFrom}
-use Rattle.rules.specs.Places.{newPass, checked, passed, emptied, examineFrom, examined, reclaimed, shutNext}
+use Rattle.rules.specs.Places.{newPass, checked, passed, emptied, examineFrom, examined, afterFree, shutNext}
 use Rattle.rules.specs.declared.Row.{Row}
 use Rattle.view.specs.Every.{pick-all}
 
@@ -29,8 +29,8 @@ module _ (P : Row → Type 0) (g : Settings) where
   unfolding examined
   all-examined n r e x c s = pick-all P (eqb n 0) _ _ (pick-all P (eqb (r .reclaimable) 0) _ _ (all-from (shardIn r + 1) r e x) c) s
 
-  pub all-reclaimed : (n : ℕ) (r : Row) → P (goTo Pc.Empty (inShard 0 r)) → ((j : ℕ) → P (goTo Pc.Examine (inShard j r))) → P r → P (reclaimed g n r)
-  unfolding reclaimed
+  pub all-reclaimed : (n : ℕ) (r : Row) → P (goTo Pc.Empty (inShard 0 r)) → ((j : ℕ) → P (goTo Pc.Examine (inShard j r))) → P r → P (afterFree g n r)
+  unfolding afterFree
   all-reclaimed n r e x s = pick-all P (eqb n 0) _ _ (all-from (shardIn r + 1) r e x) s
 
   pub all-shut : (r : Row) → P (goTo Pc.S3 r) → ((j : ℕ) → P (goTo Pc.S1 (inShard j r))) → P (shutNext g r)

@@ -8,7 +8,7 @@ use Rattle.base.specs.Pick.{pick}
 use Rattle.rules.specs.Sizes.{records, sources, nodes, threads}
 use Rattle.rules.specs.Words.{plus}
 use Rattle.rules.specs.Rows.{rowAt}
-use Rattle.rules.specs.Step.{Shared, State, guardsOf, guarded}
+use Rattle.rules.specs.Step.{Shared, State, guardsOf, guardsAfter}
 use Rattle.rules.specs.declared.Row.{Row}
 use Rattle.rules.specs.declared.Effect.{Effect}
 use Rattle.rules.specs.declared.Guards.{Guards}
@@ -187,7 +187,7 @@ tick v = withCounters (record { recordCount = v .counters .recordCount; count = 
 
 -- thread t's row becomes r, and its guarded set what m makes of it
 abbrev pub seat : ℕ → Row → Guards → View → View
-seat t r m v = withRows (set (v .rows) t r) (withGuards (set (v .guards) t (guarded (getD (v .guards) t []) m)) v)
+seat t r m v = withRows (set (v .rows) t r) (withGuards (set (v .guards) t (guardsAfter (getD (v .guards) t []) m)) v)
 
 -- the effect e of thread t, whose step accessed c
 abbrev pub applies : ℕ → Named → Effect → View → View

@@ -1,11 +1,11 @@
 -- `reclaimed` meets its contract. Assumes nothing.
-use Rattle.rules.specs.Places.{reclaimed}
+use Rattle.rules.specs.Places.{afterFree}
 use borrow.Author.Needs.{needs}
 use Rattle.passes.proofs.reclaimed.Statement.{statement}
 use Rattle.passes.proofs.reclaimed.Tie as tie
 
 pub reclaimed-spec : {M : Type 1} → statement M
-unfolding reclaimed
+unfolding afterFree
 reclaimed-spec =
     tie.close
     (tie.spec
