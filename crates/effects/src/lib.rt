@@ -69,13 +69,13 @@ pub fn puts(row: Row, put: u64) -> Effect
 
 // So it does, and the cell becomes `to`.
 pub fn links(row: Row, cell: Named, to: u64) -> Effect
-    ensures { λ e. ⌜ e ≡ also cell to (becomes row) ⌝ }
+    ensures { λ e. ⌜ e ≡ alsoStores cell to (becomes row) ⌝ }
 {
     effect(row, 0, 0, false, 0, cell, to)
 }
 
 pub fn puts_links(row: Row, put: u64, cell: Named, to: u64) -> Effect
-    ensures { λ e. ⌜ e ≡ stores put (also cell to (becomes row)) ⌝ }
+    ensures { λ e. ⌜ e ≡ stores put (alsoStores cell to (becomes row)) ⌝ }
 {
     effect(row, 0, 0, true, put, cell, to)
 }
@@ -101,13 +101,13 @@ pub fn ends_puts(number: u32, value: u64, put: u64) -> Effect
 }
 
 pub fn ends_links(number: u32, value: u64, cell: Named, to: u64) -> Effect
-    ensures { λ e. ⌜ e ≡ also cell to (answers number value idle) ⌝ }
+    ensures { λ e. ⌜ e ≡ alsoStores cell to (answers number value idle) ⌝ }
 {
     effect(idle(), number, value, false, 0, cell, to)
 }
 
 pub fn ends_puts_links(number: u32, value: u64, put: u64, cell: Named, to: u64) -> Effect
-    ensures { λ e. ⌜ e ≡ stores put (also cell to (answers number value idle)) ⌝ }
+    ensures { λ e. ⌜ e ≡ stores put (alsoStores cell to (answers number value idle)) ⌝ }
 {
     effect(idle(), number, value, true, put, cell, to)
 }
