@@ -77,8 +77,9 @@ impl Domain {
         run
     }
 
-    /// How many nodes are waiting, as the domain counts them: it can be behind by what threads are about to add, so it may
-    /// be -1 for a while.
+    /// How many nodes are waiting, as the domain counts them. A thread in the middle of a retire has not added its node
+    /// yet, and one that reclaims has taken the count with it until its pass is over; so it may be far from what waits,
+    /// and far below 0 for a while: -1,001 in `days/stalled.replay`.
     pub fn count(&self) -> i64 {
         self.tables.counters[1] as i64
     }
