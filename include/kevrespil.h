@@ -24,13 +24,10 @@ extern "C" {
 
 /* The tables. What stands where is in docs/RULES.md; you need not know it. */
 struct kevrespil {
-    uint32_t heads[11];
-    uint64_t counters[5];
-    uint32_t records[4096];
-    uint32_t sources[64];
-    uint32_t nodes[8192];
-    uint32_t rows32[336];
-    uint64_t rows64[80];
+    uint32_t ids[4507];
+    uint32_t next[4096];
+    uint32_t state[4096];
+    uint64_t words[85];
     uint64_t guards[1024];
 };
 
@@ -79,34 +76,29 @@ enum kevrespil_kind {
 };
 
 /* The two functions of the archive: each table with its number of elements. */
-struct kevrespil_answer kevrespil_start(uint32_t *heads, size_t heads_length, uint64_t *counters,
-                                        size_t counters_length, uint32_t *records, size_t records_length,
-                                        uint32_t *sources, size_t sources_length, uint32_t *nodes,
-                                        size_t nodes_length, uint32_t *rows32, size_t rows32_length,
-                                        uint64_t *rows64, size_t rows64_length, uint64_t *guards,
-                                        size_t guards_length, uint32_t thread, uint32_t kind, uint32_t a,
-                                        uint32_t b, uint64_t c);
+struct kevrespil_answer kevrespil_start(uint32_t *ids, size_t ids_length, uint32_t *next, size_t next_length,
+                                        uint32_t *state, size_t state_length, uint64_t *words, size_t words_length,
+                                        uint64_t *guards, size_t guards_length, uint32_t thread, uint32_t kind,
+                                        uint32_t a, uint32_t b, uint64_t c);
 
-struct kevrespil_answer kevrespil_step(uint32_t *heads, size_t heads_length, uint64_t *counters,
-                                       size_t counters_length, uint32_t *records, size_t records_length,
-                                       uint32_t *sources, size_t sources_length, uint32_t *nodes,
-                                       size_t nodes_length, uint32_t *rows32, size_t rows32_length, uint64_t *rows64,
-                                       size_t rows64_length, uint64_t *guards, size_t guards_length, uint32_t thread,
-                                       bool flag, uint64_t clock);
+struct kevrespil_answer kevrespil_step(uint32_t *ids, size_t ids_length, uint32_t *next, size_t next_length,
+                                       uint32_t *state, size_t state_length, uint64_t *words, size_t words_length,
+                                       uint64_t *guards, size_t guards_length, uint32_t thread, bool flag,
+                                       uint64_t clock);
 
 /* A thread starts an operation. */
 static inline struct kevrespil_answer kevrespil_begin(struct kevrespil *k, uint32_t thread, enum kevrespil_kind kind,
                                                       uint32_t a, uint32_t b, uint64_t c)
 {
-    return kevrespil_start(k->heads, 11, k->counters, 5, k->records, 4096, k->sources, 64, k->nodes, 8192, k->rows32,
-                           336, k->rows64, 80, k->guards, 1024, thread, (uint32_t)kind, a, b, c);
+    return kevrespil_start(k->ids, 4507, k->next, 4096, k->state, 4096, k->words, 85, k->guards, 1024, thread,
+                           (uint32_t)kind, a, b, c);
 }
 
 /* A thread takes a step. A weak exchange fails if spurious is true; the clock counts nanoseconds. */
 static inline struct kevrespil_answer kevrespil_go(struct kevrespil *k, uint32_t thread, bool spurious, uint64_t clock)
 {
-    return kevrespil_step(k->heads, 11, k->counters, 5, k->records, 4096, k->sources, 64, k->nodes, 8192, k->rows32,
-                          336, k->rows64, 80, k->guards, 1024, thread, spurious, clock);
+    return kevrespil_step(k->ids, 4507, k->next, 4096, k->state, 4096, k->words, 85, k->guards, 1024, thread, spurious,
+                          clock);
 }
 
 #ifdef __cplusplus

@@ -39,15 +39,17 @@ int main(void)
     is("one more step", kevrespil_go(k, 0, false, 0), KEVRESPIL_IDLE, 0);
 
     is("a table too short",
-       kevrespil_step(k->heads, 10, k->counters, 5, k->records, 4096, k->sources, 64, k->nodes, 8192, k->rows32, 336,
-                      k->rows64, 80, k->guards, 1024, 0, false, 0),
+       kevrespil_step(k->ids, 4506, k->next, 4096, k->state, 4096, k->words, 85, k->guards, 1024, 0, false, 0),
        KEVRESPIL_TABLE_SIZE, 0);
     is("no kind", kevrespil_begin(k, 0, (enum kevrespil_kind)13, 0, 0, 0), KEVRESPIL_NO_OPERATION, 0);
     is("kind 0, which is a step", kevrespil_begin(k, 0, (enum kevrespil_kind)0, 0, 0, 0), KEVRESPIL_NO_OPERATION, 0);
     is("an unused field", kevrespil_begin(k, 0, KEVRESPIL_ACQUIRE, 0, 0, 1), KEVRESPIL_NO_OPERATION, 0);
+    is("no kind on a table too short",
+       kevrespil_start(k->ids, 4506, k->next, 4096, k->state, 4096, k->words, 85, k->guards, 1024, 16, 13, 0, 0, 0),
+       KEVRESPIL_NO_OPERATION, 0);
     is("a record above 2^16", kevrespil_begin(k, 0, KEVRESPIL_RELEASE, 65537, 0, 0), KEVRESPIL_RECORD, 0);
     is("a thread above 2^8", kevrespil_begin(k, 256, KEVRESPIL_ACQUIRE, 0, 0, 0), KEVRESPIL_THREAD, 0);
-    damaged.heads[1] = 1; /* head_available, a locked null */
+    damaged.ids[1] = 1; /* head_available, a locked null */
     is("acquire", kevrespil_begin(&damaged, 0, KEVRESPIL_ACQUIRE, 0, 0, 0), KEVRESPIL_STARTED, 0);
     is("a damaged cell", kevrespil_go(&damaged, 0, false, 0), KEVRESPIL_OUT_OF_RANGE, 0);
 

@@ -1,6 +1,6 @@
 //! A domain: the machine's tables, and the ways to move it.
 
-use crate::ffi::{Reply, Tables};
+use crate::ffi::{Reply, Tables, COUNT, RECORD_COUNT};
 use crate::{Answer, Operation};
 
 /// After so many steps [`Domain::run`] gives up. An operation that waits for nobody is over long before: it looks at
@@ -35,13 +35,10 @@ impl Domain {
     pub fn new() -> Domain {
         Domain {
             tables: Box::new(Tables {
-                heads: [0; 11],
-                counters: [0; 5],
-                records: [0; 4096],
-                sources: [0; 64],
-                nodes: [0; 8192],
-                rows32: [0; 336],
-                rows64: [0; 80],
+                ids: [0; 4507],
+                next: [0; 4096],
+                state: [0; 4096],
+                words: [0; 85],
                 guards: [0; 1024],
             }),
         }
@@ -81,12 +78,12 @@ impl Domain {
     /// yet, and one that reclaims has taken the count with it until its pass is over; so it may be far from what waits,
     /// and far below 0 for a while: -1,001 in `days/stalled.replay`.
     pub fn count(&self) -> i64 {
-        self.tables.counters[1] as i64
+        self.tables.words[COUNT] as i64
     }
 
     /// How many records there are, owned or not.
     pub fn records(&self) -> u64 {
-        self.tables.counters[0]
+        self.tables.words[RECORD_COUNT]
     }
 }
 

@@ -8,17 +8,18 @@ pub struct Reply {
     pub value: u64,
 }
 
-/// The eight tables, all 0 in a fresh domain. docs/RULES.md says what stands where.
+/// The five tables, all 0 in a fresh domain. docs/RULES.md says what stands where.
 pub struct Tables {
-    pub heads: [u32; 11],
-    pub counters: [u64; 5],
-    pub records: [u32; 4096],
-    pub sources: [u32; 64],
-    pub nodes: [u32; 8192],
-    pub rows32: [u32; 336],
-    pub rows64: [u64; 80],
+    pub ids: [u32; 4507],
+    pub next: [u32; 4096],
+    pub state: [u32; 4096],
+    pub words: [u64; 85],
     pub guards: [u64; 1024],
 }
+
+/// Where two of the 64-bit words stand that a domain reads itself.
+pub const RECORD_COUNT: usize = 0;
+pub const COUNT: usize = 1;
 
 macro_rules! tables {
     ($($name:ident, $length:ident: $word:ty;)*) => {
@@ -45,12 +46,9 @@ macro_rules! tables {
 }
 
 tables! {
-    heads, heads_length: u32;
-    counters, counters_length: u64;
-    records, records_length: u32;
-    sources, sources_length: u32;
-    nodes, nodes_length: u32;
-    rows32, rows32_length: u32;
-    rows64, rows64_length: u64;
+    ids, ids_length: u32;
+    next, next_length: u32;
+    state, state_length: u32;
+    words, words_length: u64;
     guards, guards_length: u64;
 }

@@ -176,6 +176,8 @@ pub fn empty_passes() {
         }
     };
     assert_eq!((reclaimed, total), (1001, 1001));
+    // The retire has the count with it, so that what the eager reclaimed goes below 0.
+    assert_eq!(domain.count(), -1001);
     let mut more = 0;
     while domain.step(0, false, 0) == Answer::Stepped {
         more += 1;

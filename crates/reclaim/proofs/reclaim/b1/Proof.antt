@@ -10,4 +10,4 @@ b1-spec =
     (λ c κs. search needs)
     (λ c κs. search needs)
     (λ c κs. search needs)
-    (λ c. cc))
+    (λ c. rw (c .puts .ensures, c .before .wrapping-add-u64 .ensures, c .before .before .new-pass .ensures)))
