@@ -1,7 +1,8 @@
 #!/usr/bin/env python3
 # Writes docs/PROMISES.md's table of public functions anew from the sources: each one's promise as its contract states it;
 # and behind each file of its table of demands the lines where the theorems or contracts of that row stand.
-# S and S′ stand for the eight tables at entry and exit, C and C′ for the five shared ones, a primed name for a slice at exit.
+# S and S′ stand for the five tables at entry and exit, F and F′ for those without the guards, C for the shared cells in
+# them, a primed name for a slice at exit.
 import glob
 import os
 import re
@@ -10,10 +11,10 @@ os.chdir(os.path.join(os.path.dirname(os.path.abspath(__file__)), ".."))
 order=[l.split(':')[0] for l in open('crates.txt') if ':' in l and not l.startswith('#')]
 rows=[]
 def short(e):
-    e=re.sub(r'\(state \(shared [^≡]*?\.exit\)\)\) \(now \(rows32 \.exit\)\) \(now \(rows64 \.exit\)\) \(now \(guards \.exit\)\)\)',"S′",e)
-    e=re.sub(r'\(state \(shared [^≡]*?\.entry\)\)\) \(now \(rows32 \.entry\)\) \(now \(rows64 \.entry\)\) \(now \(guards \.entry\)\)\)',"S",e)
-    e=re.sub(r'\(?shared \(now \(heads \.exit\)\).*?\(now \(nodes \.exit\)\)\)?',"C′",e)
-    e=re.sub(r'\(?shared \(now \(heads \.entry\)\).*?\(now \(nodes \.entry\)\)\)?',"C",e)
+    for side, mark in (('entry', ''), ('exit', '′')):
+        four = ' '.join(rf'\(now \({t} \.{side}\)\)' for t in ('ids', 'next', 'state', 'words'))
+        for words, name in ((rf'lent {four} \(now \(guards \.{side}\)\)', 'S'), (rf'lent {four} \[\]', 'F'), (rf'sharedIn {four}', 'C')):
+            e=re.sub(rf'\({words}\)|{words}',name+mark,e)
     e=re.sub(r'now \((\w+) \.entry\)',r'\1',e); e=re.sub(r'now \((\w+) \.exit\)',r'\1′',e)
     e=re.sub(r'\((\w+′?)\)',r'\1',e)
     e=e.replace('Rattle·','')
