@@ -216,11 +216,11 @@ pub fn put_id(t: &mut [u32], at: usize, v: u32)
     }
 }
 
-pub fn put_word(t: &mut [u64], at: usize, v: u64)
-    ensures { λ _. ⌜ now (t .exit) ≡ set (now (t .entry)) at v ⌝ }
+pub fn put_word(t: &mut [u64], at: usize, x: u64)
+    ensures { λ _. ⌜ now (t .exit) ≡ set (now (t .entry)) at x ⌝ }
 {
     if at < t.len() {
-        t[at] = v;
+        t[at] = x;
     }
 }
 
