@@ -126,7 +126,7 @@ signed-high o l at x y r h e s =
     (rw (le-ltb x 9223372036854775808, sym e) (s .0 ∙ ap (λ (j : ℕ). sets (set o at 45) j (decimalOf y)) (add-one at)), rw (le-ltb x 9223372036854775808, sym e) (omega (arith, s .1)), omega (arith, s .2))
 
 -- ---- one text behind the other
-sets-append : (l : List ℕ) (i : ℕ) (a b : List ℕ) → sets (sets l i a) (i + length a) b ≡ sets l i (a ++ b)
+pub sets-append : (l : List ℕ) (i : ℕ) (a b : List ℕ) → sets (sets l i a) (i + length a) b ≡ sets l i (a ++ b)
 sets-append l i [] b = ap (λ (k : ℕ). sets l k b) (add-zero i)
 sets-append l i (v ∷ a) b =
     let k : i + suc (length a) ≡ suc i + length a = omega arith in

@@ -1,9 +1,10 @@
 // Words and decimal numbers as bytes, written into a lent slice from an index on.
 ghost use mathlib.Core.Path.{_≡_};
 ghost use Prim.Native.Nat.{_+_, _-_, _≤_, _<_};
-ghost use lib.ListN.{length, take};
-ghost use mathlib.Core.List.{[], _∷_};
+ghost use lib.ListN.{length, take, drop};
+ghost use mathlib.Core.List.{[], _∷_, _++_};
 ghost use lib.Seq.{sets};
+ghost use Rattle.texts.specs.Lines.{upTo};
 ghost use Rattle.texts.specs.Texts.{widthOf, digitsOf, decimalOf, signedOf, lineOf, signedLineOf, fieldLineOf};
 
 // How many decimal digits a number has.
@@ -92,6 +93,51 @@ pub fn fill(out: &mut [u8], at: usize, bytes: &[u8]) -> usize
     let from = 0usize;
     let part = &bytes[from..room];
     word(out, at, part)
+}
+
+// How much of a line the buffer holds, and where its newline stands in the input; the input's end if there is none.
+pub struct Gathered {
+    pub len: usize,
+    pub at: usize,
+}
+
+// How many bytes the first `len` of the buffer are.
+fn held(line: &[u8], len: usize) -> usize
+    ensures { λ r. ⌜ (take r (now (line .entry)) ≡ take len (now (line .entry))) × (r ≤ length (now (line .entry))) ⌝ }
+{
+    if len <= line.len() {
+        return len;
+    }
+    line.len()
+}
+
+// A byte goes behind the first n of the buffer, if there is room.
+fn keep(line: &mut [u8], n: usize, b: u8) -> usize
+    requires { ⌜ n ≤ length (now line) ⌝ }
+    ensures { λ r. ⌜ (take r (now (line .exit)) ≡ take (length (now (line .entry))) (take n (now (line .entry)) ++ b ∷ [])) × (r ≤ length (now (line .entry))) ⌝ }
+{
+    if n < line.len() {
+        line[n] = b;
+        return n + 1;
+    }
+    n
+}
+
+// The input's bytes from `at` up to the next newline go behind the first `len` of the buffer, as far as there is room.
+pub fn gather(line: &mut [u8], len: usize, input: &[u8], at: usize) -> Gathered
+    ensures { λ r. ⌜ (take (r .len) (now (line .exit)) ≡ take (length (now (line .entry))) (take len (now (line .entry)) ++ upTo (drop at (now (input .entry))))) × (r .at ≡ at + length (upTo (drop at (now (input .entry))))) × (r .len ≤ length (now (line .entry))) ⌝ }
+{
+    let mut n = held(line, len);
+    let mut i = at;
+    while i < input.len() {
+        let b = input[i];
+        if b == b'\n' {
+            return Gathered { len: n, at: i };
+        }
+        n = keep(line, n, b);
+        i += 1;
+    }
+    Gathered { len: n, at: i }
 }
 
 fn newline(out: &mut [u8], at: usize) -> usize
