@@ -1,2 +1,5 @@
 pub mod Replay
 pub mod ReplayLaws
+pub mod Runner
+pub mod RunnerLaws
+pub mod BlockLaws

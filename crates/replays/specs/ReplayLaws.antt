@@ -1,24 +1,25 @@
--- How the run of a line is put together of its parts.
+-- How the answer to a line is put together: the arms of the `match` on a line.
 use Prim.Native.Nat.{ℕ}
 use mathlib.Core.Path.{_≡_, ap, sym, _∙_}
 use mathlib.Core.Bool.{Bool}
-use mathlib.Core.List.{List}
 use Rattle.rules.specs.Sizes.{Settings}
-use Rattle.rules.specs.Step.{State, Out, out}
+use Rattle.rules.specs.Step.{State, out, stepOf}
+use Rattle.rules.specs.Start.{startOf}
 use Rattle.rules.specs.declared.Answer.{Answer}
-use Rattle.frames.specs.Frames.{answerOf}
+use Rattle.rules.specs.declared.Operation.{Operation}
 use Rattle.frames.specs.declared.Line.{Line}
-use Rattle.replays.specs.declared.Reply.{Reply}
-use Rattle.replays.specs.Replay.{Replied, reply, replied, byThread, replyTo, lineIn, ran, written, ranLine}
+use Rattle.frames.specs.declared.Line.the-variants.{Step, Start, Bad}
+use Rattle.replays.specs.Replay.{reply, replied, byThread, replyTo}
 
--- an arm of the match on a line
-pub replies : (g : Settings) (s : State) (n : ℕ) (l m : Line) (r : Replied) → l ≡ m → r ≡ replyTo g s n m → r ≡ replyTo g s n l
-replies g s n l m r p q = q ∙ ap (replyTo g s n) (sym p)
+module _ (g : Settings) (s s′ : State) (n : ℕ) (l : Line) where
+  pub steps : (a : Answer) (t : ℕ) (flag : Bool) (clock : ℕ) → l ≡ Step t flag clock → out a s′ ≡ stepOf g s t flag clock → replied (reply (a .number) t (a .value)) s′ ≡ replyTo g s n l
+  unfolding replyTo
+  steps a t flag clock e p = ap (byThread t) p ∙ ap (replyTo g s n) (sym e)
 
--- what `start` or `step` answered, as a reply
-pub of-thread : (t : ℕ) (a : Answer) (s : State) (o : Out) → out a s ≡ o → replied (reply (a .number) t (a .value)) s ≡ byThread t o
-of-thread t a s o p = ap (byThread t) p
+  pub starts : (a : Answer) (t : ℕ) (o : Operation) → l ≡ Start t o → out a s′ ≡ startOf g s t o → replied (reply (a .number) t (a .value)) s′ ≡ replyTo g s n l
+  unfolding replyTo
+  starts a t o e p = ap (byThread t) p ∙ ap (replyTo g s n) (sym e)
 
-pub runs : (g : Settings) (s s′ : State) (bytes text : List ℕ) (whole : Bool) (n : ℕ) (l : Line) (r : Reply) → text ≡ answerOf (r .number) (r .thread) (r .value) → replied r s′ ≡ replyTo g s n l → l ≡ lineIn bytes whole → ran text s′ ≡ ranLine g s bytes whole n
-unfolding ranLine
-runs g s s′ bytes text whole n l r p q z = ap (λ (x : List ℕ). ran x s′) p ∙ ap written q ∙ ap (λ (m : Line). written (replyTo g s n m)) z
+pub refuses : (g : Settings) (s : State) (n : ℕ) (l : Line) → l ≡ Bad → replied (reply 28 0 n) s ≡ replyTo g s n l
+unfolding replyTo
+refuses g s n l e = ap (replyTo g s n) (sym e)

@@ -71,6 +71,14 @@ pub fn read_line(input: &mut [u8], line: &mut [u8], w: Window) -> Line
     }
 }
 
+// Whether the input had no line left.
+pub fn is_end(l: Line) -> bool {
+    if l.whole {
+        return false;
+    }
+    l.len == 0
+}
+
 // The output buffer: how many bytes it holds, and whether the output still takes any.
 pub struct Out {
     pub used: usize,
