@@ -3,8 +3,12 @@
 ghost use Prim.Native.Nat.{_+_, _≤_, _<_};
 ghost use lib.ListN.{length};
 ghost use mathlib.Core.Path.{_≡_};
-use libc::STDIN_FILENO;
-use libc::STDOUT_FILENO;
+use replays::runner;
+use rules::FROM_RECORDS;
+use rules::FROM_ROWS;
+use rules::FROM_SOURCES;
+use streams::Out;
+use streams::Window;
 
 // Room for the longest line.
 const ROOM: usize = 128;
@@ -12,79 +16,25 @@ const ROOM: usize = 128;
 // How many cells are compared at a time.
 const BLOCK: usize = 64;
 
-// Whose cells a table has.
-const HEADS: u32 = 0;
+// Which table a cell is of.
+const IDS: u32 = 0;
 
-const RECORDS: u32 = 1;
+const NEXT: u32 = 1;
 
-const SOURCES: u32 = 2;
+const STATE: u32 = 2;
 
-const NODES: u32 = 3;
+// What was seen of the three tables stands one behind the other.
+const SEEN_NEXT: usize = FROM_ROWS;
 
-// The output buffer: how many bytes it holds, and whether the output still takes any.
-struct Out {
-    used: usize,
-    open: bool,
-}
+const SEEN_STATE: usize = SEEN_NEXT + CELLS;
 
-// The start of a line that the block before left unfinished: its length in the line buffer, its number, and whether
-// there may be more input.
-struct Carry {
-    len: usize,
-    number: u64,
-    more: bool,
-}
-
-// What a block leaves: the carry, and the output buffer.
-struct Block {
-    len: usize,
-    number: u64,
-    used: usize,
-    open: bool,
-}
-
-// Room for a line: the buffer is written out where less is left.
-fn room(out: &[u8], o: Out) -> Out
-    requires { ⌜ (128 ≤ length (now out)) × (o .used ≤ length (now out)) ⌝ }
-    ensures { λ r. ⌜ r .used + 128 ≤ length (now (out .entry)) ⌝ }
-{
-    let used = o.used;
-    let last = out.len() - ROOM;
-    if used <= last {
-        return o;
-    }
-    if o.open {
-        let from = 0usize;
-        let full = &out[from..used];
-        let is_written = io::write_all(STDOUT_FILENO, full);
-        return Out {
-            used: 0,
-            open: is_written,
-        };
-    }
-    Out {
-        used: 0,
-        open: false,
-    }
-}
-
-// An answer line goes behind the bytes used.
-fn put(out: &mut [u8], used: usize, text: [u8; 21])
-    requires { ⌜ used + 21 ≤ length (now out) ⌝ }
-{
-    let mut i = 0usize;
-    while i < 21 {
-        let at = used + i;
-        out[at] = text[i];
-        i += 1;
-    }
-}
+const CELLS: usize = 4096;
 
 fn wide(x: u32) -> u64 {
     x as u64
 }
 
-// Cell i of the heads holds x. The shutdown mark is not written.
+// Head i holds x. The shutdown mark is not written.
 fn head_line(out: &mut [u8], at: usize, i: usize, x: u64) -> usize
     requires { ⌜ at + 128 ≤ length (now out) ⌝ }
     ensures { λ r. ⌜ r ≤ at + 128 ⌝ }
@@ -138,15 +88,20 @@ fn record_line(out: &mut [u8], at: usize, record: u64, k: usize, x: u64) -> usiz
     at
 }
 
-// Word k of a node holds x.
-fn node_line(out: &mut [u8], at: usize, node: u64, k: usize, x: u64) -> usize
+// Word i of the table of ids holds x.
+fn id_line(out: &mut [u8], at: usize, i: usize, x: u64) -> usize
     requires { ⌜ at + 128 ≤ length (now out) ⌝ }
     ensures { λ r. ⌜ r ≤ at + 128 ⌝ }
 {
-    if k == 0 {
-        return texts::field_line(out, at, b" node ", node, b" next ", x);
+    if i < FROM_SOURCES {
+        return head_line(out, at, i, x);
     }
-    texts::field_line(out, at, b" node ", node, b" state ", x)
+    if i < FROM_RECORDS {
+        let source = i - FROM_SOURCES + 1;
+        return texts::field_line(out, at, b" source ", source as u64, b" ", x);
+    }
+    let k = i - FROM_RECORDS;
+    record_line(out, at, (k / 4 + 1) as u64, k % 4, x)
 }
 
 // Word i of a table holds x.
@@ -154,90 +109,69 @@ fn cell_line(table: u32, out: &mut [u8], at: usize, i: usize, x: u64) -> usize
     requires { ⌜ (at + 128 ≤ length (now out)) × (i < 18446744073709551615) ⌝ }
     ensures { λ r. ⌜ r ≤ at + 128 ⌝ }
 {
-    if table == HEADS {
-        return head_line(out, at, i, x);
+    if table == NEXT {
+        return texts::field_line(out, at, b" node ", (i + 1) as u64, b" next ", x);
     }
-    if table == RECORDS {
-        return record_line(out, at, (i / 4 + 1) as u64, i % 4, x);
+    if table == STATE {
+        return texts::field_line(out, at, b" node ", (i + 1) as u64, b" state ", x);
     }
-    if table == SOURCES {
-        return texts::field_line(out, at, b" source ", (i + 1) as u64, b" ", x);
-    }
-    node_line(out, at, (i / 2 + 1) as u64, i % 2, x)
+    id_line(out, at, i, x)
 }
 
-// What differs in a block from `from` on: 0 if nothing does.
-fn apart(a: &[u32], b: &[u32], from: usize) -> u32
-    requires { ⌜ (from + 64 ≤ length (now a)) × (from + 64 ≤ length (now b)) ⌝ }
+// What differs in a block from i on: 0 if nothing does.
+fn apart(cells: &[u32], seen: &[u32], off: usize, i: usize) -> u32
+    requires { ⌜ (i + 64 ≤ length (now cells)) × (off + i + 64 ≤ length (now seen)) ⌝ }
 {
+    let from = off + i;
     let mut d = 0u32;
-    let mut i = 0usize;
-    while i < BLOCK {
-        d = d | (a[from + i] ^ b[from + i]);
-        i += 1;
+    let mut k = 0usize;
+    while k < BLOCK {
+        d = d | (cells[i + k] ^ seen[from + k]);
+        k += 1;
     }
     d
 }
 
-// Blocks that do not differ are passed.
-fn blocks(a: &[u32], b: &[u32], n: usize, from: usize) -> usize
-    requires { ⌜ (n ≤ length (now a)) × (n ≤ length (now b)) ⌝ }
-    ensures { λ r. ⌜ from ≤ r ⌝ }
+// The first cell from `from` on, below `to`, that differs from what was seen `off` words further on; `to` if none does.
+fn differs(cells: &[u32], seen: &[u32], off: usize, from: usize, to: usize) -> usize
+    requires { ⌜ (from ≤ to) × (to ≤ length (now cells)) × (off + to ≤ length (now seen)) ⌝ }
+    ensures { λ r. ⌜ (from ≤ r) × (r ≤ to) ⌝ }
 {
-    if n < BLOCK {
-        return from;
-    }
-    let last = n - BLOCK;
     let mut i = from;
-    while i <= last {
-        if apart(a, b, i) != 0 {
-            return i;
+    while BLOCK <= to - i {
+        if apart(cells, seen, off, i) != 0 {
+            break;
         }
         i += BLOCK;
     }
-    i
-}
-
-fn cells(a: &[u32], b: &[u32], n: usize, from: usize) -> usize
-    requires { ⌜ (n ≤ length (now a)) × (n ≤ length (now b)) ⌝ }
-    ensures { λ r. ⌜ from ≤ r ⌝ }
-{
-    let mut i = from;
-    while i < n {
-        if a[i] != b[i] {
+    while i < to {
+        if cells[i] != seen[off + i] {
             return i;
         }
         i += 1;
     }
-    i
+    to
 }
 
-fn shorter(a: usize, b: usize) -> usize
-    ensures { λ r. ⌜ (r ≤ a) × (r ≤ b) ⌝ }
-{
-    if a < b {
-        return a;
-    }
-    b
-}
-
-// The index of the first cell from `from` on that differs; past the end if none does.
-fn differs(a: &[u32], b: &[u32], from: usize) -> usize
-    ensures { λ r. ⌜ from ≤ r ⌝ }
-{
-    let n = shorter(a.len(), b.len());
-    let start = blocks(a, b, n, from);
-    cells(a, b, n, start)
-}
-
-// Cell i of a table changed.
-fn change(table: u32, cells: &[u32], seen: &mut [u32], i: usize, out: &mut [u8], o: Out) -> Out
-    requires { ⌜ (i < length (now cells)) × (128 ≤ length (now out)) × (o .used ≤ length (now out)) ⌝ }
-    ensures { λ r. ⌜ r .used ≤ length (now (out .exit)) ⌝ }
+// Cell i of a table may have changed.
+fn change(
+    table: u32,
+    cells: &[u32],
+    seen: &mut [u32],
+    off: usize,
+    i: usize,
+    out: &mut [u8],
+    o: Out,
+) -> Out
+    requires { ⌜ (i < length (now cells)) × (off + i < length (now seen)) × (128 ≤ length (now out)) ⌝ }
 {
     let x = cells[i];
-    tables::put_id(seen, i, x);
-    let r = room(out, o);
+    let at = off + i;
+    if seen[at] == x {
+        return o;
+    }
+    seen[at] = x;
+    let r = streams::room(out, o, ROOM);
     let used = cell_line(table, out, r.used, i, wide(x));
     Out {
         used: used,
@@ -245,31 +179,55 @@ fn change(table: u32, cells: &[u32], seen: &mut [u32], i: usize, out: &mut [u8],
     }
 }
 
-// The cells of a table that differ from what was seen.
-fn changes(table: u32, cells: &[u32], seen: &mut [u32], out: &mut [u8], o: Out) -> Out
-    requires { ⌜ (128 ≤ length (now out)) × (o .used ≤ length (now out)) ⌝ }
-    ensures { λ r. ⌜ r .used ≤ length (now (out .exit)) ⌝ }
+// The ids from `from` to `to` that differ from what was seen.
+fn id_changes(ids: &[u32], seen: &mut [u32], from: usize, to: usize, out: &mut [u8], o: Out) -> Out
+    requires { ⌜ (from ≤ to) × (to ≤ length (now ids)) × (to ≤ length (now seen)) × (128 ≤ length (now out)) ⌝ }
 {
     let mut b = o;
-    let mut i = differs(cells, seen, 0);
-    while i < cells.len() {
-        b = change(table, cells, seen, i, out, b);
-        i = differs(cells, seen, i + 1);
+    let mut i = differs(ids, seen, 0, from, to);
+    while i < to {
+        b = change(IDS, ids, seen, 0, i, out, b);
+        i = differs(ids, seen, 0, i + 1, to);
     }
     b
 }
 
-// A counter that may have changed.
-fn counter(counters: &[u64], seen: &mut [u64], i: usize, out: &mut [u8], o: Out) -> Out
-    requires { ⌜ (128 ≤ length (now out)) × (o .used ≤ length (now out)) ⌝ }
-    ensures { λ r. ⌜ r .used ≤ length (now (out .exit)) ⌝ }
+// The first node from `from` on of which something changed.
+fn node_from(next: &[u32], state: &[u32], seen: &[u32], from: usize) -> usize
+    requires { ⌜ (from ≤ 4096) × (length (now next) ≡ 4096) × (length (now state) ≡ 4096) × (length (now seen) ≡ 12363) ⌝ }
+    ensures { λ r. ⌜ (from ≤ r) × (r ≤ 4096) ⌝ }
 {
-    let x = tables::word(counters, i);
+    let a = differs(next, seen, SEEN_NEXT, from, CELLS);
+    let b = differs(state, seen, SEEN_STATE, from, CELLS);
+    if a < b {
+        return a;
+    }
+    b
+}
+
+fn node_changes(next: &[u32], state: &[u32], seen: &mut [u32], out: &mut [u8], o: Out) -> Out
+    requires { ⌜ (length (now next) ≡ 4096) × (length (now state) ≡ 4096) × (length (now seen) ≡ 12363) × (128 ≤ length (now out)) ⌝ }
+{
+    let mut b = o;
+    let mut i = node_from(next, state, seen, 0);
+    while i < CELLS {
+        b = change(NEXT, next, seen, SEEN_NEXT, i, out, b);
+        b = change(STATE, state, seen, SEEN_STATE, i, out, b);
+        i = node_from(next, state, seen, i + 1);
+    }
+    b
+}
+
+// Counter i may have changed.
+fn counter(words: &[u64], seen: &mut [u64], i: usize, out: &mut [u8], o: Out) -> Out
+    requires { ⌜ 128 ≤ length (now out) ⌝ }
+{
+    let x = tables::word(words, i);
     if tables::word(seen, i) == x {
         return o;
     }
     tables::put_word(seen, i, x);
-    let r = room(out, o);
+    let r = streams::room(out, o, ROOM);
     let used = counter_line(out, r.used, i, x);
     Out {
         used: used,
@@ -277,476 +235,110 @@ fn counter(counters: &[u64], seen: &mut [u64], i: usize, out: &mut [u8], o: Out)
     }
 }
 
-fn counter_changes(counters: &[u64], seen: &mut [u64], out: &mut [u8], o: Out) -> Out
-    requires { ⌜ (128 ≤ length (now out)) × (o .used ≤ length (now out)) ⌝ }
-    ensures { λ r. ⌜ r .used ≤ length (now (out .exit)) ⌝ }
+fn counter_changes(words: &[u64], seen: &mut [u64], out: &mut [u8], o: Out) -> Out
+    requires { ⌜ 128 ≤ length (now out) ⌝ }
 {
-    let mut b = o;
-    let mut i = 0usize;
-    while i < 4 {
-        b = counter(counters, seen, i, out, b);
-        i += 1;
-    }
-    b
+    let o1 = counter(words, seen, 0, out, o);
+    let o2 = counter(words, seen, 1, out, o1);
+    let o3 = counter(words, seen, 2, out, o2);
+    counter(words, seen, 3, out, o3)
 }
 
 // Every cell that differs from what was seen, in the order of their names.
 fn report(
-    heads: &[u32],
-    counters: &[u64],
-    records: &[u32],
-    sources: &[u32],
-    nodes: &[u32],
-    seen_heads: &mut [u32],
-    seen_counters: &mut [u64],
-    seen_records: &mut [u32],
-    seen_sources: &mut [u32],
-    seen_nodes: &mut [u32],
+    ids: &[u32],
+    next: &[u32],
+    state: &[u32],
+    words: &[u64],
+    seen: &mut [u32],
+    counters: &mut [u64],
     out: &mut [u8],
     o: Out,
 ) -> Out
-    requires { ⌜ (128 ≤ length (now out)) × (o .used ≤ length (now out)) ⌝ }
-    ensures { λ r. ⌜ r .used ≤ length (now (out .exit)) ⌝ }
+    requires { ⌜ (length (now ids) ≡ 4507) × (length (now next) ≡ 4096) × (length (now state) ≡ 4096) × (length (now seen) ≡ 12363) × (128 ≤ length (now out)) ⌝ }
 {
-    let o1 = changes(HEADS, heads, seen_heads, out, o);
-    let o2 = counter_changes(counters, seen_counters, out, o1);
-    let o3 = changes(RECORDS, records, seen_records, out, o2);
-    let o4 = changes(SOURCES, sources, seen_sources, out, o3);
-    changes(NODES, nodes, seen_nodes, out, o4)
+    let o1 = id_changes(ids, seen, 0, FROM_SOURCES, out, o);
+    let o2 = counter_changes(words, counters, out, o1);
+    let o3 = id_changes(ids, seen, FROM_RECORDS, FROM_ROWS, out, o2);
+    let o4 = id_changes(ids, seen, FROM_SOURCES, FROM_RECORDS, out, o3);
+    node_changes(next, state, seen, out, o4)
 }
 
-// The line that the buffer holds the n bytes of.
-fn run_kept(
-    heads: &mut [u32],
-    counters: &mut [u64],
-    records: &mut [u32],
-    sources: &mut [u32],
-    nodes: &mut [u32],
-    rows32: &mut [u32],
-    rows64: &mut [u64],
-    guards: &mut [u64],
-    line: &[u8],
-    n: usize,
-    number: u64,
-) -> [u8; 21]
-    requires { ⌜ n ≤ length (now line) ⌝ }
+// The first n bytes of an answer's text.
+fn answer(out: &mut [u8], o: Out, text: [u8; 21], n: usize) -> Out
+    requires { ⌜ (n ≤ 21) × (128 ≤ length (now out)) ⌝ }
 {
+    let r = streams::room(out, o, ROOM);
     let from = 0usize;
-    let bytes = &line[from..n];
-    replays::run_line(
-        heads,
-        counters,
-        records,
-        sources,
-        nodes,
-        rows32,
-        rows64,
-        guards,
-        bytes,
-        true,
-        number,
-    )
-}
-
-// The line that ends with part, of which the buffer holds the first len bytes.
-fn answer(
-    heads: &mut [u32],
-    counters: &mut [u64],
-    records: &mut [u32],
-    sources: &mut [u32],
-    nodes: &mut [u32],
-    rows32: &mut [u32],
-    rows64: &mut [u64],
-    guards: &mut [u64],
-    line: &mut [u8],
-    len: usize,
-    part: &[u8],
-    number: u64,
-) -> [u8; 21]
-    requires { ⌜ (len ≤ 29) × (length (now line) ≡ 29) ⌝ }
-{
-    if len == 0 {
-        return replays::run_line(
-            heads,
-            counters,
-            records,
-            sources,
-            nodes,
-            rows32,
-            rows64,
-            guards,
-            part,
-            true,
-            number,
-        );
+    let part = &text[from..n];
+    let used = texts::word(out, r.used, part);
+    Out {
+        used: used,
+        open: r.open,
     }
-    let n = texts::fill(line, len, part);
-    run_kept(
-        heads,
-        counters,
-        records,
-        sources,
-        nodes,
-        rows32,
-        rows64,
-        guards,
-        line,
-        n,
-        number,
-    )
 }
 
-// The line is run, and its answer and its changes go to the output.
-fn run_line(
-    heads: &mut [u32],
-    counters: &mut [u64],
-    records: &mut [u32],
-    sources: &mut [u32],
-    nodes: &mut [u32],
-    rows32: &mut [u32],
-    rows64: &mut [u64],
-    guards: &mut [u64],
-    seen_heads: &mut [u32],
-    seen_counters: &mut [u64],
-    seen_records: &mut [u32],
-    seen_sources: &mut [u32],
-    seen_nodes: &mut [u32],
-    line: &mut [u8],
-    len: usize,
-    part: &[u8],
-    number: u64,
-    out: &mut [u8],
-    o: Out,
-) -> Out
-    requires { ⌜ (len ≤ 29) × (length (now line) ≡ 29) × (128 ≤ length (now out)) × (o .used ≤ length (now out)) ⌝ }
-    ensures { λ r. ⌜ r .used ≤ length (now (out .exit)) ⌝ }
-{
-    let text = answer(
-        heads,
-        counters,
-        records,
-        sources,
-        nodes,
-        rows32,
-        rows64,
-        guards,
-        line,
-        len,
-        part,
-        number,
-    );
-    let r = room(out, o);
-    let used = r.used;
-    put(out, used, text);
-    report(
-        heads,
-        counters,
-        records,
-        sources,
-        nodes,
-        seen_heads,
-        seen_counters,
-        seen_records,
-        seen_sources,
-        seen_nodes,
-        out,
-        Out {
-            used: used + 21,
-            open: r.open,
-        },
-    )
-}
-
-// Every line of a block, and the start of the one that it leaves unfinished.
-fn run_block(
-    heads: &mut [u32],
-    counters: &mut [u64],
-    records: &mut [u32],
-    sources: &mut [u32],
-    nodes: &mut [u32],
-    rows32: &mut [u32],
-    rows64: &mut [u64],
-    guards: &mut [u64],
-    seen_heads: &mut [u32],
-    seen_counters: &mut [u64],
-    seen_records: &mut [u32],
-    seen_sources: &mut [u32],
-    seen_nodes: &mut [u32],
-    line: &mut [u8],
-    len: usize,
-    number: u64,
-    input: &[u8],
-    out: &mut [u8],
-) -> Block
-    requires { ⌜ (len ≤ 29) × (length (now line) ≡ 29) × (128 ≤ length (now out)) ⌝ }
-    ensures { λ b. ⌜ (b .len ≤ 29) × (b .used ≤ length (now (out .exit))) ⌝ }
-{
-    let mut k = len;
-    let mut n = number;
+fn main() {
+    let mut ids = [0u32; 4507];
+    let mut next = [0u32; 4096];
+    let mut state = [0u32; 4096];
+    let mut words = [0u64; 85];
+    let mut guards = [0u64; 1024];
+    let mut seen = [0u32; 12363];
+    let mut counters = [0u64; 4];
+    let mut input = [0u8; 16384];
+    let mut text = [0u8; 21];
+    let mut out = [0u8; 65536];
+    let mut kept = runner::begun(1);
+    let mut w = Window { at: 0, end: 0 };
     let mut o = Out {
         used: 0,
         open: true,
     };
-    let mut i = 0usize;
-    while i < input.len() {
-        let e = bytes::scan::find(input, i, input.len(), b'\n');
-        let part = &input[i..e];
-        if e == input.len() {
-            let kept = texts::fill(line, k, part);
-            return Block {
-                len: kept,
-                number: n,
-                used: o.used,
-                open: o.open,
-            };
-        }
-        o = run_line(
-            heads,
-            counters,
-            records,
-            sources,
-            nodes,
-            rows32,
-            rows64,
-            guards,
-            seen_heads,
-            seen_counters,
-            seen_records,
-            seen_sources,
-            seen_nodes,
-            line,
-            k,
-            part,
-            n,
-            out,
-            o,
-        );
-        n = std::num::wrapping_add_u64(n, 1);
-        k = 0;
-        i = e + 1;
-    }
-    Block {
-        len: k,
-        number: n,
-        used: o.used,
-        open: o.open,
-    }
-}
-
-// What a block left in the buffer is written out.
-fn flush(out: &[u8], b: Block) -> Carry
-    requires { ⌜ (b .len ≤ 29) × (b .used ≤ length (now out)) ⌝ }
-    ensures { λ d. ⌜ d .len ≤ 29 ⌝ }
-{
-    if b.open {
-        let used = b.used;
-        let from = 0usize;
-        let rest = &out[from..used];
-        let is_written = io::write_all(STDOUT_FILENO, rest);
-        return Carry {
-            len: b.len,
-            number: b.number,
-            more: is_written,
-        };
-    }
-    Carry {
-        len: 0,
-        number: b.number,
-        more: false,
-    }
-}
-
-// One block is read, run and answered.
-fn turn(
-    heads: &mut [u32],
-    counters: &mut [u64],
-    records: &mut [u32],
-    sources: &mut [u32],
-    nodes: &mut [u32],
-    rows32: &mut [u32],
-    rows64: &mut [u64],
-    guards: &mut [u64],
-    seen_heads: &mut [u32],
-    seen_counters: &mut [u64],
-    seen_records: &mut [u32],
-    seen_sources: &mut [u32],
-    seen_nodes: &mut [u32],
-    line: &mut [u8],
-    c: Carry,
-    input: &mut [u8],
-    out: &mut [u8],
-) -> Carry
-    requires { ⌜ (c .len ≤ 29) × (length (now line) ≡ 29) × (128 ≤ length (now out)) ⌝ }
-    ensures { λ d. ⌜ d .len ≤ 29 ⌝ }
-{
-    let got = libc::read(STDIN_FILENO, input);
-    let n = io::count(got, input);
-    if n == 0 {
-        return Carry {
-            len: c.len,
-            number: c.number,
-            more: false,
-        };
-    }
-    let from = 0usize;
-    let block = &input[from..n];
-    let b = run_block(
-        heads,
-        counters,
-        records,
-        sources,
-        nodes,
-        rows32,
-        rows64,
-        guards,
-        seen_heads,
-        seen_counters,
-        seen_records,
-        seen_sources,
-        seen_nodes,
-        line,
-        c.len,
-        c.number,
-        block,
-        out,
-    );
-    flush(out, b)
-}
-
-// A last line that has no newline changes nothing.
-fn finish(
-    heads: &mut [u32],
-    counters: &mut [u64],
-    records: &mut [u32],
-    sources: &mut [u32],
-    nodes: &mut [u32],
-    rows32: &mut [u32],
-    rows64: &mut [u64],
-    guards: &mut [u64],
-    line: &[u8],
-    c: Carry,
-) {
-    if c.len == 0 {
-        return;
-    }
-    let text = replays::run_line(
-        heads,
-        counters,
-        records,
-        sources,
-        nodes,
-        rows32,
-        rows64,
-        guards,
-        line,
-        false,
-        c.number,
-    );
-    io::write_all(STDOUT_FILENO, &text);
-}
-
-// Block after block.
-fn run(
-    heads: &mut [u32],
-    counters: &mut [u64],
-    records: &mut [u32],
-    sources: &mut [u32],
-    nodes: &mut [u32],
-    rows32: &mut [u32],
-    rows64: &mut [u64],
-    guards: &mut [u64],
-    seen_heads: &mut [u32],
-    seen_counters: &mut [u64],
-    seen_records: &mut [u32],
-    seen_sources: &mut [u32],
-    seen_nodes: &mut [u32],
-    line: &mut [u8],
-    input: &mut [u8],
-    out: &mut [u8],
-)
-    requires { ⌜ (length (now line) ≡ 29) × (128 ≤ length (now out)) ⌝ }
-{
-    let mut c = Carry {
-        len: 0,
-        number: 1,
-        more: true,
-    };
-    // A proved loop has to end; no input has so many blocks.
+    // A proved loop has to end; no input has so many lines.
     let mut turns = u64::MAX;
     while turns > 0 {
-        c = turn(
-            heads,
-            counters,
-            records,
-            sources,
-            nodes,
-            rows32,
-            rows64,
-            guards,
-            seen_heads,
-            seen_counters,
-            seen_records,
-            seen_sources,
-            seen_nodes,
-            line,
-            c,
-            input,
-            out,
-        );
-        if c.more {
-            turns -= 1;
-        } else {
-            turns = 0;
+        o = streams::settle(&out, o, w);
+        if !o.open {
+            break;
         }
+        w = streams::more(&mut input, w);
+        let at = w.at;
+        let end = w.end;
+        if at == end {
+            break;
+        }
+        let part = &input[at..end];
+        let b = runner::run_block(
+            &mut ids,
+            &mut next,
+            &mut state,
+            &mut words,
+            &mut guards,
+            kept,
+            part,
+            &mut text,
+        );
+        kept = b.kept;
+        w = Window {
+            at: at + b.taken,
+            end: end,
+        };
+        o = answer(&mut out, o, text, b.used);
+        o = report(
+            &ids,
+            &next,
+            &state,
+            &words,
+            &mut seen,
+            &mut counters,
+            &mut out,
+            o,
+        );
+        turns -= 1;
     }
-    finish(
-        heads,
-        counters,
-        records,
-        sources,
-        nodes,
-        rows32,
-        rows64,
-        guards,
-        line,
-        c,
-    );
-}
-
-fn main() {
-    let mut heads = [0u32; 11];
-    let mut counters = [0u64; 5];
-    let mut records = [0u32; 4096];
-    let mut sources = [0u32; 64];
-    let mut nodes = [0u32; 8192];
-    let mut rows32 = [0u32; 336];
-    let mut rows64 = [0u64; 80];
-    let mut guards = [0u64; 1024];
-    let mut seen_heads = [0u32; 11];
-    let mut seen_counters = [0u64; 5];
-    let mut seen_records = [0u32; 4096];
-    let mut seen_sources = [0u32; 64];
-    let mut seen_nodes = [0u32; 8192];
-    // A line's first 29 bytes are kept, which are too many for a frame.
-    let mut line = [0u8; 29];
-    let mut input = [0u8; 16384];
-    let mut out = [0u8; 65536];
-    run(
-        &mut heads,
-        &mut counters,
-        &mut records,
-        &mut sources,
-        &mut nodes,
-        &mut rows32,
-        &mut rows64,
-        &mut guards,
-        &mut seen_heads,
-        &mut seen_counters,
-        &mut seen_records,
-        &mut seen_sources,
-        &mut seen_nodes,
-        &mut line,
-        &mut input,
-        &mut out,
-    );
+    let e = runner::finish(kept);
+    let last = e.text;
+    o = answer(&mut out, o, last, e.used);
+    streams::flush(&out, o);
 }

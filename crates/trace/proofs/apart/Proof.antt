@@ -5,10 +5,10 @@ use Rattle.trace.proofs.apart.Statement.{statement}
 use Rattle.trace.proofs.apart.Tie as tie
 
 abbrev Inv-loop : tie.InvT-loop
-Inv-loop a b from d₀ i₀ d i = i ≤ 64
+Inv-loop cells seen off i from d₀ k₀ d k = k ≤ 64
 
 abbrev μ-loop : tie.MeasureT-loop
-μ-loop a b from d₀ i₀ d i = 64 - i
+μ-loop cells seen off i from d₀ k₀ d k = 64 - k
 
 pub apart-spec : {M : Type 1} → statement M
 apart-spec =
@@ -16,6 +16,7 @@ apart-spec =
     (tie.spec
     Inv-loop
     μ-loop
+    (λ c. omega arith)
     (λ c. omega arith)
     (λ c. omega arith)
     (λ c. omega arith)
