@@ -29,18 +29,8 @@ followOf r untaken =
 
 -- ---- words for effects
 abbrev effect : Row → ℕ → ℕ → Bool → ℕ → Named → ℕ → Guards → Bool → Effect
-effect row number value writes put also to guards closes =
-    record {
-      row = row;
-      number = number;
-      value = value;
-      writes = writes;
-      put = put;
-      also = also;
-      to = to;
-      guards = guards;
-      closes = closes;
-    }
+effect r n v w p c t m z =
+    record { row = r; number = n; value = v; writes = w; put = p; also = c; to = t; guards = m; closes = z }
 
 abbrev pub answers : ℕ → ℕ → Row → Effect
 answers n v r = effect r n v false 0 cell.Nothing 0 guards.Keep false

@@ -114,18 +114,8 @@ abbrev pub guardsPut : List ℕ → ℕ → List ℕ → List ℕ
 guardsPut g t p = take (t * words) g ++ (p ++ drop words (drop (t * words) g))
 
 abbrev pub seen : ℕ → ℕ → ℕ → Bool → ℕ → Bool → ℕ → Seen
-seen x y untaken guarded t flag clock =
-    record {
-      x = x;
-      v = x % 2 ^ 32;
-      y = y;
-      w = y % 2 ^ 32;
-      untaken = untaken;
-      guarded = guarded;
-      thread = t;
-      flag = flag;
-      clock = clock;
-    }
+seen x y u on t f k =
+    record { x = x; v = x % 2 ^ 32; y = y; w = y % 2 ^ 32; untaken = u; guarded = on; thread = t; flag = f; clock = k }
 
 -- the row's step reads its cell c, and l beside it
 unfoldable pub readBy : State → ℕ → Bool → ℕ → Row → Cell → Cell → ℕ → Seen
