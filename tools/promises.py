@@ -19,6 +19,12 @@ def short(e):
     e=re.sub(r'\((\w+′?)\)',r'\1',e)
     e=e.replace('Rattle·','')
     return e.strip()
+# Whether a promise leaves one answer and one content: not if it is no equation but for bounds, or is one of a field, of the
+# front of a buffer, or of what `standing` counts of what is kept.
+def one(p):
+    said=[c.strip('()') for c in p.split(' × ') if '≤' not in c]
+    open_=[c for c in said if '≡' not in c or re.match(r'take |r \.',c) or re.search(r'\bstanding\b',c)]
+    return 'yes' if said and not open_ else 'part' if p else 'none'
 for c in order:
     lib=f'crates/{c}/src/lib.rt'
     if not os.path.exists(lib): continue
@@ -28,14 +34,14 @@ for c in order:
         if m=='main': continue
         if m!='lib' and not re.search(r'^pub mod '+m+';',libs,flags=re.M): continue
         s=open(f).read()
-        for mm in re.finditer(r'^pub (?:extern "C" )?fn (\w+)\((.*?)\)(?: -> ([^\n{]*?))?\s*\n((?:    (?:requires|ensures)[^\n]*\n)*)\{',s,flags=re.M|re.S):
+        for mm in re.finditer(r'^pub (?:extern "C" )?fn (\w+)\(([^{}]*?)\)(?: -> ([^\n{]*?))?\s*((?:\n    (?:requires|ensures)[^\n]*)*)\s*\{',s,flags=re.M):
             name,params,ret,cl=mm.groups()
             req='requires' in cl
             ens=re.findall(r'ensures(?: \w+)? \{ λ (\S+) ?\. ⌜ (.*?) ⌝ \}',cl)
             if not ens: ens=re.findall(r'ensures(?: \w+)? \{ (?:λ (\S+)\. )?⌜ (.*?) ⌝ \}',cl)
             p=' and '.join(short(e[1]) for e in ens)
             path=f"{c}::{'' if m=='lib' else m+'::'}{name}"
-            rows.append((path,f"crates/{c}/src/{m}.rt",p,'no' if req else 'yes'))
+            rows.append((path,f"crates/{c}/src/{m}.rt",p,'no' if req else one(p)))
 out='| function | promise | one |\n|---|---|---|\n'+'\n'.join(f"| `{a}` | {('`'+p+'`') if p else '-'} | {o} |" for a,f,p,o in rows)+'\n'
 page = open('docs/PROMISES.md').read()
 begin, end = page.index('| function |'), page.index('\n\n', page.index('| function |')) + 1
@@ -67,4 +73,4 @@ begin = page.index('|---|---|---|\n', page.index('## Demands')) + len('|---|---|
 end = page.index('\n\n', begin)
 page = page[:begin] + '\n'.join(located(row) for row in page[begin:end].split('\n')) + page[end:]
 open('docs/PROMISES.md', 'w').write(page)
-print(len(rows), 'public functions,', sum(r[3] == 'no' for r in rows), 'with a requires')
+print(len(rows), 'public functions,', ', '.join(f"{sum(r[3] == k for r in rows)} {k}" for k in ('yes', 'part', 'no', 'none')))
