@@ -1,4 +1,4 @@
--- The program places, by document 01's names. In the tables a place is its number in `places`.
+-- The program places, by document 01's names. In the tables a place is its number in `order`.
 use Prim.Native.Nat.{ℕ, suc}
 use mathlib.Core.List.{List, [], _∷_}
 use lib.ListN.{getD}
