@@ -2,6 +2,9 @@
 ghost use Prim.Native.Nat.{_-_, _≤_};
 ghost use lib.ListN.{length};
 ghost use mathlib.Core.Path.{_≡_};
+ghost use mathlib.Core.Bool.{false};
+ghost use lib.Dec.{eqb, ltb};
+ghost use Rattle.base.specs.Pick.{pick};
 use libc::STDIN_FILENO;
 use libc::STDOUT_FILENO;
 
@@ -72,7 +75,9 @@ pub fn read_line(input: &mut [u8], line: &mut [u8], w: Window) -> Line
 }
 
 // Whether the input had no line left.
-pub fn is_end(l: Line) -> bool {
+pub fn is_end(l: Line) -> bool
+    ensures { λ r. ⌜ r ≡ pick (l .whole) false (eqb (l .len) 0) ⌝ }
+{
     if l.whole {
         return false;
     }
@@ -108,7 +113,9 @@ pub fn flush(out: &[u8], o: Out) -> Out
 }
 
 // The same before the program waits for more input.
-pub fn settle(out: &[u8], o: Out, w: Window) -> Out {
+pub fn settle(out: &[u8], o: Out, w: Window) -> Out
+    ensures { λ r. ⌜ r .used ≡ pick (ltb (w .at) (w .end)) (o .used) 0 ⌝ }
+{
     if w.at < w.end {
         return o;
     }
