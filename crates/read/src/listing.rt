@@ -1,6 +1,8 @@
 // One line of the listing, and one line of numbers.
 use crate::names;
 use crate::seen;
+use crate::sight::REFUSES;
+use crate::sight::Sight;
 use crate::text::byte;
 use crate::text::number;
 use crate::text::number_hex;
@@ -17,7 +19,6 @@ use crate::told::Told;
 use crate::why;
 use replays::Reply;
 use rules::Row;
-use rules::THREADS;
 use rules::kind;
 
 // The columns, from 0.
@@ -36,9 +37,6 @@ const CUT: usize = 62;
 const ANSWER: usize = 62;
 
 const WORDS: usize = 65;
-
-// The first of the numbers that refuse.
-const REFUSES: u32 = 16;
 
 // An argument, where an operation has it: `has` is an x at the operation's kind.
 fn argument(text: &mut [u8], at: usize, has: &[u8], kind: u32, name: &[u8], x: u64) -> usize {
@@ -161,36 +159,13 @@ fn retry(text: &mut [u8], at: usize, value: u64, steps: u64) -> usize {
 }
 
 // Where a step goes on, and what it saw.
-fn goes_on(
-    text: &mut [u8],
-    at: usize,
-    heads: &[u32],
-    counters: &[u64],
-    records: &[u32],
-    sources: &[u32],
-    nodes: &[u32],
-    rows32: &[u32],
-    base: u32,
-    row: Row,
-    flag: bool,
-) -> usize {
+fn goes_on(text: &mut [u8], at: usize, flag: bool, row: Row, after: Row, x: u64) -> usize {
     let k = say(text, at, b"goes on to ");
-    let e = names::place(text, k, tables::id(rows32, base as usize));
+    let e = names::place(text, k, after.place);
     if flag {
         return say(text, e, b" (failure asked)");
     }
-    seen::seen(
-        text,
-        e,
-        heads,
-        counters,
-        records,
-        sources,
-        nodes,
-        rows32,
-        base,
-        row,
-    )
+    seen::seen(text, e, row, after, x)
 }
 
 fn reclaims(text: &mut [u8], at: usize, value: u64) -> usize {
@@ -213,13 +188,9 @@ fn granted(text: &mut [u8], at: usize, w: Told, a: Reply, steps: u64) -> usize {
 fn refused(
     text: &mut [u8],
     at: usize,
-    heads: &[u32],
-    records: &[u32],
-    sources: &[u32],
-    nodes: &[u32],
-    rows32: &[u32],
     w: Told,
     row: Row,
+    s: Sight,
     a: Reply,
     steps: u64,
     bytes: &[u8],
@@ -230,18 +201,7 @@ fn refused(
     if w.form == BAD {
         return why::bad(text, k, bytes, whole);
     }
-    let e = why::why(
-        text,
-        k,
-        heads,
-        records,
-        sources,
-        nodes,
-        rows32,
-        w,
-        row,
-        a.number,
-    );
+    let e = why::why(text, k, w, row, s, a.number);
     if steps == 0 {
         return e;
     }
@@ -268,15 +228,11 @@ fn question(text: &mut [u8], n: u64, w: Told, row: Row, bytes: &[u8]) {
 // One line of the listing; its length.
 pub fn line(
     text: &mut [u8],
-    heads: &[u32],
-    counters: &[u64],
-    records: &[u32],
-    sources: &[u32],
-    nodes: &[u32],
-    rows32: &[u32],
     n: u64,
     w: Told,
     row: Row,
+    after: Row,
+    s: Sight,
     a: Reply,
     steps: u64,
     bytes: &[u8],
@@ -289,38 +245,12 @@ pub fn line(
     right(text, ANSWER, ANSWER + 2, a.number as u64);
     let k = WORDS;
     if a.number == 0 {
-        return goes_on(
-            text,
-            k,
-            heads,
-            counters,
-            records,
-            sources,
-            nodes,
-            rows32,
-            (w.thread % THREADS) * 21,
-            row,
-            w.flag,
-        );
+        return goes_on(text, k, w.flag, row, after, s.loaded);
     }
     if a.number < REFUSES {
         return granted(text, k, w, a, steps);
     }
-    refused(
-        text,
-        k,
-        heads,
-        records,
-        sources,
-        nodes,
-        rows32,
-        w,
-        row,
-        a,
-        steps,
-        bytes,
-        whole,
-    )
+    refused(text, k, w, row, s, a, steps, bytes, whole)
 }
 
 fn field(text: &mut [u8], at: usize, x: u64) -> usize {
@@ -367,16 +297,16 @@ fn outcome(text: &mut [u8], at: usize, a: Reply) -> usize {
     field(text, k, a.value)
 }
 
-fn counts(text: &mut [u8], at: usize, counters: &[u64]) -> usize {
-    let k = field(text, at, tables::word(counters, 1));
-    number(text, k, tables::word(counters, 0))
+fn counts(text: &mut [u8], at: usize, s: Sight) -> usize {
+    let k = field(text, at, s.count);
+    number(text, k, s.records)
 }
 
 // One line of numbers; its length.
-pub fn data(text: &mut [u8], counters: &[u64], n: u64, w: Told, row: Row, a: Reply) -> usize {
+pub fn data(text: &mut [u8], n: u64, w: Told, row: Row, s: Sight, a: Reply) -> usize {
     let k = asker(text, n, w, row);
     let e = subject(text, k, w);
     let f = field(text, e, hazard(w, row, a.number) as u64);
     let g = outcome(text, f, a);
-    counts(text, g, counters)
+    counts(text, g, s)
 }

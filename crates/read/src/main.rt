@@ -10,31 +10,32 @@
 ghost use Prim.Native.Nat.{_≤_};
 ghost use lib.ListN.{length};
 
-mod input;
 mod listing;
 mod names;
 mod options;
 mod output;
 mod seen;
+mod sight;
 mod text;
 mod told;
 mod why;
 
-use crate::input::read_line;
 use crate::options::EVERY;
 use crate::options::Options;
-use crate::output::Out;
 use crate::output::emit;
+use crate::sight::Sight;
+use crate::sight::shown;
 use crate::text::byte;
 use crate::text::columns;
 use crate::text::say;
-use crate::text::shorter;
 use crate::told::BAD;
 use crate::told::START;
 use crate::told::Told;
 use frames::Line;
 use replays::Reply;
 use rules::Row;
+use streams::Out;
+use streams::Window;
 
 // Where a run is: the part of the input that is read and not yet run, and whether there may be more; the next line's
 // number; what is to be written; whether the replay's heading is, and whether anything is; the output buffer.
@@ -53,27 +54,15 @@ struct State {
     open: bool,
 }
 
-// All tables as in a fresh domain.
-fn fresh(
-    heads: &mut [u32],
-    counters: &mut [u64],
-    records: &mut [u32],
-    sources: &mut [u32],
-    nodes: &mut [u32],
-    rows32: &mut [u32],
-    rows64: &mut [u64],
-    guards: &mut [u64],
-    steps: &mut [u64],
-) {
-    tables::clear(heads);
-    bits::clear(counters);
-    tables::clear(records);
-    tables::clear(sources);
-    tables::clear(nodes);
-    tables::clear(rows32);
-    bits::clear(rows64);
-    bits::clear(guards);
-    bits::clear(steps);
+// A line that was run: what it told, its thread's row before and after it, what the tables show, what it answered, and
+// the steps that the thread's operation has taken.
+struct Ran {
+    told: Told,
+    before: Row,
+    after: Row,
+    seen: Sight,
+    reply: Reply,
+    steps: u64,
 }
 
 // The state with another output buffer, in which something was written.
@@ -229,37 +218,47 @@ fn counted(steps: &mut [u64], w: Told, answer: u32) -> u64 {
     0
 }
 
-fn list(
-    heads: &[u32],
-    counters: &[u64],
-    records: &[u32],
-    sources: &[u32],
-    nodes: &[u32],
-    rows32: &[u32],
-    w: Told,
-    row: Row,
-    a: Reply,
-    steps: u64,
-    bytes: &[u8],
-    whole: bool,
-    out: &mut [u8],
-    s: State,
-) -> State {
+// A line of a replay is run. A refusal changes nothing, and what a step loads it leaves, so that the tables behind the
+// line show what it saw.
+fn run_line(
+    ids: &mut [u32],
+    next: &mut [u32],
+    state: &mut [u32],
+    words: &mut [u64],
+    guards: &mut [u64],
+    steps: &mut [u64],
+    number: u64,
+    l: Line,
+) -> Ran {
+    let asked = told::by_line(l);
+    let row = rows::load_row(ids, words, asked.thread);
+    let w = told::in_row(asked, row);
+    let a = replays::reply_to(ids, next, state, words, guards, number, l);
+    let n = counted(steps, w, a.number);
+    let after = rows::load_row(ids, words, w.thread);
+    let seen = shown(ids, next, state, words, w, row, a.number);
+    Ran {
+        told: w,
+        before: row,
+        after: after,
+        seen: seen,
+        reply: a,
+        steps: n,
+    }
+}
+
+fn list(r: Ran, bytes: &[u8], whole: bool, out: &mut [u8], s: State) -> State {
     let h = heading(out, s);
     let mut text = [b' '; 100];
     let n = listing::line(
         &mut text,
-        heads,
-        counters,
-        records,
-        sources,
-        nodes,
-        rows32,
         s.number,
-        w,
-        row,
-        a,
-        steps,
+        r.told,
+        r.before,
+        r.after,
+        r.seen,
+        r.reply,
+        r.steps,
         bytes,
         whole,
     );
@@ -267,168 +266,29 @@ fn list(
     written(h, o, true)
 }
 
-fn numbers(counters: &[u64], w: Told, row: Row, a: Reply, out: &mut [u8], s: State) -> State {
+fn numbers(r: Ran, out: &mut [u8], s: State) -> State {
     let mut text = [b' '; 320];
-    let n = listing::data(&mut text, counters, s.number, w, row, a);
+    let n = listing::data(&mut text, s.number, r.told, r.before, r.seen, r.reply);
     let o = emit(out, out_of(s), &text, n);
     written(s, o, s.is_headed)
 }
 
 // A line that was run is written.
-fn report(
-    heads: &[u32],
-    counters: &[u64],
-    records: &[u32],
-    sources: &[u32],
-    nodes: &[u32],
-    rows32: &[u32],
-    w: Told,
-    row: Row,
-    a: Reply,
-    steps: u64,
-    bytes: &[u8],
-    whole: bool,
-    out: &mut [u8],
-    s: State,
-) -> State {
-    if is_shown(s, w) {
+fn report(r: Ran, bytes: &[u8], whole: bool, out: &mut [u8], s: State) -> State {
+    if is_shown(s, r.told) {
         if s.data {
-            return numbers(counters, w, row, a, out, s);
+            return numbers(r, out, s);
         }
-        return list(
-            heads,
-            counters,
-            records,
-            sources,
-            nodes,
-            rows32,
-            w,
-            row,
-            a,
-            steps,
-            bytes,
-            whole,
-            out,
-            s,
-        );
+        return list(r, bytes, whole, out, s);
     }
     s
 }
 
-// A last line without its newline is bad.
-fn line_in(bytes: &[u8], whole: bool) -> Line {
-    if whole {
-        return frames::read_line(bytes);
-    }
-    Line::Bad
-}
-
+// The state behind a line.
 fn counted_on(s: State) -> State {
     let mut t = s;
     t.number = std::num::wrapping_add_u64(s.number, 1);
     t
-}
-
-// A line of a replay is run and written.
-fn run_line(
-    heads: &mut [u32],
-    counters: &mut [u64],
-    records: &mut [u32],
-    sources: &mut [u32],
-    nodes: &mut [u32],
-    rows32: &mut [u32],
-    rows64: &mut [u64],
-    guards: &mut [u64],
-    steps: &mut [u64],
-    bytes: &[u8],
-    whole: bool,
-    out: &mut [u8],
-    s: State,
-) -> State {
-    let l = line_in(bytes, whole);
-    let asked = told::by_line(l);
-    let row = rows::load_row(rows32, rows64, asked.thread);
-    let w = told::in_row(asked, row);
-    let a = replays::reply_to(
-        heads,
-        counters,
-        records,
-        sources,
-        nodes,
-        rows32,
-        rows64,
-        guards,
-        s.number,
-        l,
-    );
-    let n = counted(steps, w, a.number);
-    let r = report(
-        heads,
-        counters,
-        records,
-        sources,
-        nodes,
-        rows32,
-        w,
-        row,
-        a,
-        n,
-        bytes,
-        whole,
-        out,
-        s,
-    );
-    counted_on(r)
-}
-
-// A line of the input: the beginning of a replay, a comment, or a line of the replay.
-fn each(
-    heads: &mut [u32],
-    counters: &mut [u64],
-    records: &mut [u32],
-    sources: &mut [u32],
-    nodes: &mut [u32],
-    rows32: &mut [u32],
-    rows64: &mut [u64],
-    guards: &mut [u64],
-    steps: &mut [u64],
-    bytes: &[u8],
-    whole: bool,
-    out: &mut [u8],
-    s: State,
-) -> State {
-    if byte(bytes, 0) != b'#' {
-        return run_line(
-            heads,
-            counters,
-            records,
-            sources,
-            nodes,
-            rows32,
-            rows64,
-            guards,
-            steps,
-            bytes,
-            whole,
-            out,
-            s,
-        );
-    }
-    if byte(bytes, 1) != b'!' {
-        return comment(bytes, out, s);
-    }
-    fresh(
-        heads,
-        counters,
-        records,
-        sources,
-        nodes,
-        rows32,
-        rows64,
-        guards,
-        steps,
-    );
-    begin(bytes, out, s)
 }
 
 fn ended(s: State) -> State {
@@ -437,69 +297,77 @@ fn ended(s: State) -> State {
     t
 }
 
-fn read_on(s: State, at: usize, end: usize, whole: bool) -> State {
+fn read_on(s: State, w: Window) -> State {
     let mut t = s;
-    t.at = at;
-    t.end = end;
-    t.more = whole && s.open;
+    t.at = w.at;
+    t.end = w.end;
     t
 }
 
-// One line is read, run and written.
-fn turn(
-    heads: &mut [u32],
-    counters: &mut [u64],
-    records: &mut [u32],
-    sources: &mut [u32],
-    nodes: &mut [u32],
-    rows32: &mut [u32],
-    rows64: &mut [u64],
-    guards: &mut [u64],
-    steps: &mut [u64],
-    input: &mut [u8],
-    line: &mut [u8],
-    out: &mut [u8],
-    s: State,
-) -> State {
-    let r = read_line(input, line, s.at, s.end);
-    if r.whole || r.len != 0 {
-        let n = shorter(r.len, line.len());
+fn window(s: State) -> Window {
+    Window {
+        at: s.at,
+        end: s.end,
+    }
+}
+
+// Whether there is no more input, or the output takes no more.
+fn is_over(l: streams::Line, s: State) -> bool {
+    if s.open {
+        return streams::is_end(l);
+    }
+    true
+}
+
+// A replay, up to the line that begins the next.
+fn run(input: &mut [u8], line: &mut [u8], out: &mut [u8], begun: State) -> State {
+    let mut ids = [0u32; 4507];
+    let mut next = [0u32; 4096];
+    let mut state = [0u32; 4096];
+    let mut words = [0u64; 85];
+    let mut guards = [0u64; 1024];
+    let mut steps = [0u64; 16];
+    let mut s = begun;
+    // A proved loop has to end; no input has so many lines.
+    let mut turns = u64::MAX;
+    while turns > 0 {
+        let r = streams::read_line(input, line, window(s));
+        s = read_on(s, r.left);
+        if is_over(r, s) {
+            return ended(s);
+        }
         let from = 0usize;
+        let n = r.len;
         let bytes = &line[from..n];
-        return each(
-            heads,
-            counters,
-            records,
-            sources,
-            nodes,
-            rows32,
-            rows64,
-            guards,
-            steps,
-            bytes,
-            r.whole,
-            out,
-            read_on(s, r.at, r.end, r.whole),
+        if byte(bytes, 0) == b'#' {
+            if byte(bytes, 1) == b'!' {
+                return begin(bytes, out, s);
+            }
+            s = comment(bytes, out, s);
+            turns -= 1;
+            continue;
+        }
+        let l = replays::line_in(bytes, r.whole);
+        let t = run_line(
+            &mut ids,
+            &mut next,
+            &mut state,
+            &mut words,
+            &mut guards,
+            &mut steps,
+            s.number,
+            l,
         );
+        s = counted_on(report(t, bytes, r.whole, out, s));
+        turns -= 1;
     }
     ended(s)
 }
 
-// Line after line.
-fn run(
-    heads: &mut [u32],
-    counters: &mut [u64],
-    records: &mut [u32],
-    sources: &mut [u32],
-    nodes: &mut [u32],
-    rows32: &mut [u32],
-    rows64: &mut [u64],
-    guards: &mut [u64],
-    steps: &mut [u64],
-    input: &mut [u8],
-    line: &mut [u8],
-    out: &mut [u8],
-) {
+fn main() {
+    let mut input = [0u8; 16384];
+    let mut line = [0u8; 512];
+    let mut out = [0u8; 16384];
     let mut s = State {
         at: 0,
         end: 0,
@@ -514,58 +382,15 @@ fn run(
         used: 0,
         open: true,
     };
-    // A proved loop has to end; no input has so many lines.
+    // No input has so many replays.
     let mut turns = u64::MAX;
     while turns > 0 {
-        s = turn(
-            heads,
-            counters,
-            records,
-            sources,
-            nodes,
-            rows32,
-            rows64,
-            guards,
-            steps,
-            input,
-            line,
-            out,
-            s,
-        );
+        s = run(&mut input, &mut line, &mut out, s);
         if s.more {
             turns -= 1;
         } else {
             turns = 0;
         }
     }
-    output::flush(out, out_of(s));
-}
-
-fn main() {
-    let mut heads = [0u32; 11];
-    let mut counters = [0u64; 5];
-    let mut records = [0u32; 4096];
-    let mut sources = [0u32; 64];
-    let mut nodes = [0u32; 8192];
-    let mut rows32 = [0u32; 336];
-    let mut rows64 = [0u64; 80];
-    let mut guards = [0u64; 1024];
-    let mut steps = [0u64; 16];
-    let mut input = [0u8; 16384];
-    let mut line = [0u8; 512];
-    let mut out = [0u8; 16384];
-    run(
-        &mut heads,
-        &mut counters,
-        &mut records,
-        &mut sources,
-        &mut nodes,
-        &mut rows32,
-        &mut rows64,
-        &mut guards,
-        &mut steps,
-        &mut input,
-        &mut line,
-        &mut out,
-    );
+    streams::flush(&out, out_of(s));
 }

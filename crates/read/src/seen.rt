@@ -1,10 +1,11 @@
-// What a step that goes on saw. A load leaves its cell as it was, so that the cell still holds it; what a swap took and
-// what became of a node stand in the thread's row.
+// What a step that goes on saw: what it loaded, or what the thread's row after it holds of what a swap took and of what
+// became of a node.
 use crate::text::say;
 use crate::text::say_number;
 use rules::Access;
 use rules::Named;
 use rules::Row;
+use rules::SHARDS;
 use rules::place;
 
 fn node(text: &mut [u8], at: usize, n: u64) -> usize {
@@ -53,33 +54,10 @@ fn content(text: &mut [u8], at: usize, c: Named, x: u64) -> usize {
     }
 }
 
-fn loaded(
-    text: &mut [u8],
-    at: usize,
-    heads: &[u32],
-    counters: &[u64],
-    records: &[u32],
-    sources: &[u32],
-    nodes: &[u32],
-    c: Named,
-) -> usize {
-    let x = tables::fetch(heads, counters, records, sources, nodes, tables::address(c));
-    content(text, at, c, x)
-}
-
-fn by_access(
-    text: &mut [u8],
-    at: usize,
-    heads: &[u32],
-    counters: &[u64],
-    records: &[u32],
-    sources: &[u32],
-    nodes: &[u32],
-    row: Row,
-) -> usize {
+fn by_access(text: &mut [u8], at: usize, row: Row, x: u64) -> usize {
     let a = places::access(row);
     match a {
-        Access::Load(c) => loaded(text, at, heads, counters, records, sources, nodes, c),
+        Access::Load(c) => content(text, at, c, x),
         _ => at,
     }
 }
@@ -92,29 +70,21 @@ fn examined(text: &mut [u8], at: usize, n: u32, kept: u32) -> usize {
     say(text, at, b", not guarded")
 }
 
-// What a step saw, its row before it being `row` and the thread's words beginning at `base`.
-pub fn seen(
-    text: &mut [u8],
-    at: usize,
-    heads: &[u32],
-    counters: &[u64],
-    records: &[u32],
-    sources: &[u32],
-    nodes: &[u32],
-    rows32: &[u32],
-    base: u32,
-    row: Row,
-) -> usize {
-    let b = base as usize;
+fn stolen(text: &mut [u8], at: usize, shard: u32, after: Row) -> usize {
+    let heads = after.stolen;
+    if shard < SHARDS {
+        return node(text, at, heads[shard as usize] as u64);
+    }
+    at
+}
+
+// What a step saw, its row before and after it, and what it loaded.
+pub fn seen(text: &mut [u8], at: usize, row: Row, after: Row, x: u64) -> usize {
     let p = row.place;
     match p {
-        place::STEAL => node(
-            text,
-            at,
-            tables::id(rows32, b + 13 + row.shard as usize) as u64,
-        ),
-        place::S1 => node(text, at, tables::id(rows32, b + 9) as u64),
-        place::EXAMINE => examined(text, at, places::first(row), tables::id(rows32, b + 10)),
-        _ => by_access(text, at, heads, counters, records, sources, nodes, row),
+        place::STEAL => stolen(text, at, row.shard, after),
+        place::S1 => node(text, at, after.reclaimable as u64),
+        place::EXAMINE => examined(text, at, places::first(row), after.unreclaimed),
+        _ => by_access(text, at, row, x),
     }
 }

@@ -1,7 +1,7 @@
-// Why a line was refused. A refusal changes nothing, so that the tables still are what they were before the line; of a
-// step that is answered 25 or 26, which ends its operation, the row as it was before says all.
-ghost use Prim.Native.Nat.{_≤_};
+// Why a line was refused. Of a step that is answered 25 or 26, which ends its operation, the row as it was before says
+// all.
 use crate::names;
+use crate::sight::Sight;
 use crate::text::nth;
 use crate::text::number;
 use crate::text::say;
@@ -36,45 +36,27 @@ fn holder(text: &mut [u8], at: usize, h: u32) -> usize {
     say(text, k, b"'s")
 }
 
-fn owner(text: &mut [u8], at: usize, records: &[u32], rec: u32) -> usize
-    requires { ⌜ 1 ≤ rec ⌝ }
-{
-    let k = say_number(text, at, b"record ", rec as u64);
-    holder(text, k, tables::id(records, rec as usize * 4 - 1))
-}
-
 // 22: the record, and whose it is.
-fn record(text: &mut [u8], at: usize, records: &[u32], rec: u32) -> usize {
-    if rec == 0 {
+fn record(text: &mut [u8], at: usize, s: Sight) -> usize {
+    if s.rec == 0 {
         return no_such(text, at, RECORD, 0);
     }
-    if RECORDS < rec {
-        return no_such(text, at, RECORD, rec);
+    if RECORDS < s.rec {
+        return no_such(text, at, RECORD, s.rec);
     }
-    owner(text, at, records, rec)
-}
-
-// The number of the source that holds a node; 0 if none does.
-fn source_of(sources: &[u32], node: u32) -> u64 {
-    let mut i = 0usize;
-    while i < sources.len() {
-        if sources[i] == node {
-            return i as u64 + 1;
-        }
-        i += 1;
-    }
-    0
+    let k = say_number(text, at, b"record ", s.rec as u64);
+    holder(text, k, s.holder)
 }
 
 // 25: what keeps a node from being retired.
-fn state(text: &mut [u8], at: usize, sources: &[u32], node: u32, state: u32) -> usize {
-    if state == LIVE {
-        return say_number(text, at, b" is in source ", source_of(sources, node));
+fn state(text: &mut [u8], at: usize, s: Sight) -> usize {
+    if s.state == LIVE {
+        return say_number(text, at, b" is in source ", s.source);
     }
-    nth(text, at, b" is free;; is waiting", state)
+    nth(text, at, b" is free;; is waiting", s.state)
 }
 
-fn node(text: &mut [u8], at: usize, sources: &[u32], nodes: &[u32], n: u64) -> usize {
+fn node(text: &mut [u8], at: usize, n: u64, s: Sight) -> usize {
     let k = say_number(text, at, b"node ", n);
     if n == 0 {
         return k;
@@ -82,8 +64,7 @@ fn node(text: &mut [u8], at: usize, sources: &[u32], nodes: &[u32], n: u64) -> u
     if (NODES as u64) < n {
         return k;
     }
-    let id = n as u32;
-    state(text, k, sources, id, tables::id(nodes, id as usize * 2 - 1))
+    state(text, k, s)
 }
 
 // 20: what the thread is doing.
@@ -94,39 +75,14 @@ fn inside(text: &mut [u8], at: usize, row: Row) -> usize {
     names::place(text, f, row.place)
 }
 
-// The first thread that is inside an operation; 16 if none is.
-fn busy(rows32: &[u32]) -> u32 {
-    let mut t = 0u32;
-    while t < THREADS {
-        if tables::id(rows32, t as usize * 21) != 0 {
-            return t;
-        }
-        t += 1;
-    }
-    THREADS
-}
-
-// The first record that a thread owns; 0 if none is owned.
-fn owned(records: &[u32]) -> u32 {
-    let mut r = 0u32;
-    while r < RECORDS {
-        if 1 < tables::id(records, r as usize * 4 + 3) {
-            return r + 1;
-        }
-        r += 1;
-    }
-    0
-}
-
 // 27: what a shutdown has to wait for.
-fn waits(text: &mut [u8], at: usize, records: &[u32], rows32: &[u32]) -> usize {
-    let t = busy(rows32);
-    if t < THREADS {
-        let k = say_number(text, at, b"thread ", t as u64);
+fn waits(text: &mut [u8], at: usize, s: Sight) -> usize {
+    if s.busy < THREADS {
+        let k = say_number(text, at, b"thread ", s.busy as u64);
         let e = say(text, k, b" is in ");
-        return names::operation(text, e, tables::id(rows32, t as usize * 21 + 1));
+        return names::operation(text, e, s.operation);
     }
-    record(text, at, records, owned(records))
+    record(text, at, s)
 }
 
 // What needs no number, by its place among the words; a shutdown's mark, 1 or 2, is the place of its own.
@@ -169,27 +125,16 @@ fn swapped(text: &mut [u8], at: usize, node: u64) -> usize {
     say(text, k, b" waits")
 }
 
-fn of_start(
-    text: &mut [u8],
-    at: usize,
-    heads: &[u32],
-    records: &[u32],
-    sources: &[u32],
-    nodes: &[u32],
-    rows32: &[u32],
-    w: Told,
-    row: Row,
-    answer: u32,
-) -> usize {
+fn of_start(text: &mut [u8], at: usize, w: Told, row: Row, s: Sight, answer: u32) -> usize {
     match answer {
         17 => no_such(text, at, THREAD, w.thread),
-        18 => plainly(text, at, tables::id(heads, 2)),
+        18 => plainly(text, at, s.mark),
         20 => inside(text, at, row),
-        22 => record(text, at, records, w.rec),
+        22 => record(text, at, s),
         23 => no_such(text, at, SOURCE, w.source),
         24 => no_node(text, at, w.node),
-        25 => node(text, at, sources, nodes, w.node),
-        27 => waits(text, at, records, rows32),
+        25 => node(text, at, w.node, s),
+        27 => waits(text, at, s),
         29 => plainly(text, at, RANGE),
         _ => plainly(text, at, SIZE),
     }
@@ -208,31 +153,9 @@ fn of_step(text: &mut [u8], at: usize, w: Told, answer: u32) -> usize {
 }
 
 // Why a start or a step was refused.
-pub fn why(
-    text: &mut [u8],
-    at: usize,
-    heads: &[u32],
-    records: &[u32],
-    sources: &[u32],
-    nodes: &[u32],
-    rows32: &[u32],
-    w: Told,
-    row: Row,
-    answer: u32,
-) -> usize {
+pub fn why(text: &mut [u8], at: usize, w: Told, row: Row, s: Sight, answer: u32) -> usize {
     if w.form == START {
-        return of_start(
-            text,
-            at,
-            heads,
-            records,
-            sources,
-            nodes,
-            rows32,
-            w,
-            row,
-            answer,
-        );
+        return of_start(text, at, w, row, s, answer);
     }
     of_step(text, at, w, answer)
 }

@@ -7,10 +7,10 @@ use Rattle.read.proofs.run.Statement.{statement}
 use Rattle.read.proofs.run.Tie as tie
 
 abbrev Inv-loop : tie.InvT-loop
-Inv-loop heads₀ counters₀ records₀ sources₀ nodes₀ rows32₀ rows64₀ guards₀ steps₀ input₀ line₀ out₀ s₀ turns₀ heads counters records sources nodes rows32 rows64 guards steps input line out s turns = (length heads ≡ length heads₀) × (length counters ≡ length counters₀) × (length records ≡ length records₀) × (length sources ≡ length sources₀) × (length nodes ≡ length nodes₀) × (length rows32 ≡ length rows32₀) × (length rows64 ≡ length rows64₀) × (length guards ≡ length guards₀) × (length steps ≡ length steps₀) × (length input ≡ length input₀) × (length line ≡ length line₀) × (length out ≡ length out₀)
+Inv-loop input₀ line₀ out₀ ids₀ next₀ state₀ words₀ guards₀ steps₀ s₀ turns₀ input line out ids next state words guards steps s turns = (length input ≡ length input₀) × (length line ≡ length line₀) × (length out ≡ length out₀) × (length ids ≡ 4507) × (length next ≡ 4096) × (length state ≡ 4096) × (length words ≡ 85) × (length guards ≡ 1024) × (length steps ≡ 16)
 
 abbrev μ-loop : tie.MeasureT-loop
-μ-loop heads₀ counters₀ records₀ sources₀ nodes₀ rows32₀ rows64₀ guards₀ steps₀ input₀ line₀ out₀ s₀ turns₀ heads counters records sources nodes rows32 rows64 guards steps input line out s turns = turns
+μ-loop input₀ line₀ out₀ ids₀ next₀ state₀ words₀ guards₀ steps₀ s₀ turns₀ input line out ids next state words guards steps s turns = turns
 
 pub run-spec : {M : Type 1} → statement M
 run-spec =
@@ -20,23 +20,43 @@ run-spec =
     μ-loop
     (λ c. omega arith)
     (λ c κs. search needs)
-    (λ c. omega (arith, c .before .before .before .before .before .before .before .before .before .before .before .before .before .before .before .before .before .before .before .before .before .before .before .before .before .before .before .before .before .before .before .before .before .before .before .before .before .before .loop-test))
-    (λ c. omega (arith, c .before .before .before .before .before .before .before .before .before .before .before .before .before .before .before .before .before .before .before .before .before .before .before .before .before .before .before .before .before .before .before .before .before .before .before .before .before .before .loop-test))
-    (λ c. omega (arith, c .before .before .before .before .before .before .before .before .before .before .before .before .before .before .before .before .before .before .before .before .before .before .before .before .heads .given, c .before .before .before .before .before .before .before .before .before .before .before .before .before .before .before .before .before .before .before .before .before .before .counters .given, c .before .before .before .before .before .before .before .before .before .before .before .before .before .before .before .before .before .before .before .before .records .given, c .before .before .before .before .before .before .before .before .before .before .before .before .before .before .before .before .before .before .sources .given, c .before .before .before .before .before .before .before .before .before .before .before .before .before .before .before .before .nodes .given, c .before .before .before .before .before .before .before .before .before .before .before .before .before .before .rows32 .given, c .before .before .before .before .before .before .before .before .before .before .before .before .rows64 .given, c .before .before .before .before .before .before .before .before .before .before .guards .given, c .before .before .before .before .before .before .before .before .steps .given, c .before .before .before .before .before .before .input .given, c .before .before .before .before .line .given, c .before .before .out .given, c .before .before .before .before .before .before .before .before .before .before .before .before .before .before .before .before .before .before .before .before .before .before .before .before .before .before .before .before .before .before .before .before .before .before .before .before .before .before .before .loop .inv))
-    (λ c. omega (arith, c .before .before .before .before .before .before .before .before .before .before .before .before .before .before .before .before .before .before .before .before .before .before .before .before .before .before .before .before .before .before .before .before .before .before .before .before .before .before .loop-test))
-    (λ c. omega (arith, c .before .before .before .before .before .before .before .before .before .before .before .before .before .before .before .before .before .before .before .before .before .before .before .before .heads .given, c .before .before .before .before .before .before .before .before .before .before .before .before .before .before .before .before .before .before .before .before .before .before .counters .given, c .before .before .before .before .before .before .before .before .before .before .before .before .before .before .before .before .before .before .before .before .records .given, c .before .before .before .before .before .before .before .before .before .before .before .before .before .before .before .before .before .before .sources .given, c .before .before .before .before .before .before .before .before .before .before .before .before .before .before .before .before .nodes .given, c .before .before .before .before .before .before .before .before .before .before .before .before .before .before .rows32 .given, c .before .before .before .before .before .before .before .before .before .before .before .before .rows64 .given, c .before .before .before .before .before .before .before .before .before .before .guards .given, c .before .before .before .before .before .before .before .before .steps .given, c .before .before .before .before .before .before .input .given, c .before .before .before .before .line .given, c .before .before .out .given, c .before .before .before .before .before .before .before .before .before .before .before .before .before .before .before .before .before .before .before .before .before .before .before .before .before .before .before .before .before .before .before .before .before .before .before .before .before .before .before .loop .inv))
     (λ c κs. search needs)
     (λ c κs. search needs)
+    (λ c κs. search needs)
+    (λ c κs. search needs)
+    (λ c. omega (arith, c .before .before .before .before .before .before .before .input .given, c .before .before .before .before .before .before .before .before .before .before .before .before .before .loop .inv .0))
+    (λ c. omega (arith, c .before .before .before .before .before .line .given, c .before .before .before .before .before .before .before .before .before .before .before .before .before .loop .inv .1))
+    (λ c. omega (arith, c .before .before .before .before .before .before .before .before .before .before .before .before .before .loop .inv .2))
+    (λ c. omega arith)
+    (λ c. omega arith)
+    (λ c. omega arith)
+    (λ c. omega arith)
+    (λ c κs. search needs)
+    (λ c κs. search needs)
+    (λ c κs. search needs)
+    (λ c. omega (arith, c .before .before .before .before .before .before .before .before .before .before .before .before .before .before .before .before .input .given, c .before .before .before .before .before .before .before .before .before .before .before .before .before .before .before .before .before .before .before .before .before .before .loop .inv .0))
+    (λ c. omega (arith, c .before .before .before .before .before .before .before .before .before .before .before .before .before .before .line .given, c .before .before .before .before .before .before .before .before .before .before .before .before .before .before .before .before .before .before .before .before .before .before .loop .inv .1))
+    (λ c. omega (arith, c .before .out .given, c .before .before .before .before .before .before .before .before .before .before .before .before .before .before .before .before .before .before .before .before .before .before .loop .inv .2))
+    (λ c. omega arith)
+    (λ c κs. search needs)
+    (λ c. omega (arith, c .before .before .before .before .before .before .before .before .before .before .before .before .before .before .before .before .before .before .before .before .before .loop-test .taken))
+    (λ c. omega (arith, c .before .before .before .before .before .before .before .before .before .before .before .before .before .before .before .before .before .before .before .before .before .loop-test .taken))
+    (λ c. let l = c .before .before .before .before .before .before .before .before .before .before .before .before .before .before .before .before .before .before .before .before .before .before .loop .inv in (omega (arith, c .before .before .before .before .before .before .before .before .before .before .before .before .before .before .before .before .input .given, l .0), omega (arith, c .before .before .before .before .before .before .before .before .before .before .before .before .before .before .line .given, l .1), omega (arith, c .before .out2 .given, l .2), l .3, l .4, l .5, l .6, l .7, l .8))
+    (λ c κs. search needs)
     (λ c. omega arith)
     (λ c. omega arith)
     (λ c. omega arith)
     (λ c. omega arith)
     (λ c. omega arith)
+    (λ c. omega (arith, c .before .before .before .before .before .before .before .before .before .before .before .before .before .before .before .before .before .before .before .before .before .before .before .loop .inv .8))
+    (λ c κs. search needs)
+    (λ c κs. search needs)
+    (λ c κs. search needs)
+    (λ c. omega (arith, c .before .before .before .before .before .before .before .before .before .before .before .before .before .before .before .before .before .before .before .before .before .before .before .before .before .before .before .before .before .before .before .before .before .before .loop-test .taken))
+    (λ c. omega (arith, c .before .before .before .before .before .before .before .before .before .before .before .before .before .before .before .before .before .before .before .before .before .before .before .before .before .before .before .before .before .before .before .before .before .before .loop-test .taken))
+    (λ c. let l = c .before .before .before .before .before .before .before .before .before .before .before .before .before .before .before .before .before .before .before .before .before .before .before .before .before .before .before .before .before .before .before .before .before .before .before .loop .inv in (omega (arith, c .before .before .before .before .before .before .before .before .before .before .before .before .before .before .before .before .before .before .before .before .before .before .before .before .before .before .before .before .before .input .given, l .0), omega (arith, c .before .before .before .before .before .before .before .before .before .before .before .before .before .before .before .before .before .before .before .before .before .before .before .before .before .before .before .line .given, l .1), omega (arith, c .before .before .out3 .given, l .2), omega (arith, c .before .before .before .before .before .before .before .before .before .before .ids2 .given, l .3), omega (arith, c .before .before .before .before .before .before .before .before .before .next2 .given, l .4), omega (arith, c .before .before .before .before .before .before .before .before .state2 .given, l .5), omega (arith, c .before .before .before .before .before .before .before .words2 .given, l .6), omega (arith, c .before .before .before .before .before .before .guards2 .given, l .7), omega (arith, c .before .before .before .before .before .steps2 .given, l .8)))
+    (λ c κs. search needs)
     (λ c. omega arith)
     (λ c. omega arith)
     (λ c. omega arith)
-    (λ c. omega arith)
-    (λ c. omega arith)
-    (λ c. omega arith)
-    (λ c. omega arith)
-    (λ c. search needs))
+    (λ c. omega arith))

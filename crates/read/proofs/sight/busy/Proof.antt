@@ -1,15 +1,14 @@
--- `why::busy` meets its contract. Assumes nothing.
+-- `busy` meets its contract. Assumes nothing.
 use Prim.Native.Nat.{_≤_, _-_}
-use borrow.Author.Needs.{needs}
 use native.Mathlib.Omega.{arith}
-use Rattle.read.proofs.why.busy.Statement.{statement}
-use Rattle.read.proofs.why.busy.Tie as tie
+use Rattle.read.proofs.sight.busy.Statement.{statement}
+use Rattle.read.proofs.sight.busy.Tie as tie
 
 abbrev Inv-loop : tie.InvT-loop
-Inv-loop rows32 t₀ t = t ≤ 16
+Inv-loop ids t₀ t = t ≤ 16
 
 abbrev μ-loop : tie.MeasureT-loop
-μ-loop rows32 t₀ t = 16 - t
+μ-loop ids t₀ t = 16 - t
 
 pub busy-spec : {M : Type 1} → statement M
 busy-spec =
@@ -20,8 +19,9 @@ busy-spec =
     (λ c. omega arith)
     (λ c. omega arith)
     (λ c. omega arith)
-    (λ c κs. search needs)
-    (λ c. search needs)
+    (λ c. omega arith)
+    (λ c κs. omega arith)
+    (λ c. omega arith)
     (λ c. omega arith)
     (λ c. omega arith)
     (λ c. omega arith)

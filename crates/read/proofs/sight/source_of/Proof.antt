@@ -1,16 +1,14 @@
--- `why::source_of` meets its contract. Assumes nothing.
+-- `source_of` meets its contract. Assumes nothing.
 use Prim.Native.Nat.{_≤_, _-_}
-use borrow.Author.Needs.{needs}
-use lib.ListN.{length}
 use native.Mathlib.Omega.{arith}
-use Rattle.read.proofs.why.source_of.Statement.{statement}
-use Rattle.read.proofs.why.source_of.Tie as tie
+use Rattle.read.proofs.sight.source_of.Statement.{statement}
+use Rattle.read.proofs.sight.source_of.Tie as tie
 
 abbrev Inv-loop : tie.InvT-loop
-Inv-loop sources node i₀ i = 0 ≤ i
+Inv-loop ids node i₀ i = i ≤ 64
 
 abbrev μ-loop : tie.MeasureT-loop
-μ-loop sources node i₀ i = length sources - i
+μ-loop ids node i₀ i = 64 - i
 
 pub source-of-spec : {M : Type 1} → statement M
 source-of-spec =
@@ -20,9 +18,9 @@ source-of-spec =
     μ-loop
     (λ c. omega arith)
     (λ c. omega arith)
+    (λ c κs. omega arith)
     (λ c. omega arith)
     (λ c. omega arith)
-    (λ c. search needs)
     (λ c. omega arith)
     (λ c. omega arith)
     (λ c. omega arith)

@@ -1,15 +1,14 @@
--- `why::owned` meets its contract. Assumes nothing.
+-- `owned` meets its contract. Assumes nothing.
 use Prim.Native.Nat.{_≤_, _-_}
-use borrow.Author.Needs.{needs}
 use native.Mathlib.Omega.{arith}
-use Rattle.read.proofs.why.owned.Statement.{statement}
-use Rattle.read.proofs.why.owned.Tie as tie
+use Rattle.read.proofs.sight.owned.Statement.{statement}
+use Rattle.read.proofs.sight.owned.Tie as tie
 
 abbrev Inv-loop : tie.InvT-loop
-Inv-loop records r₀ r = r ≤ 1024
+Inv-loop ids r₀ r = r ≤ 1024
 
 abbrev μ-loop : tie.MeasureT-loop
-μ-loop records r₀ r = 1024 - r
+μ-loop ids r₀ r = 1024 - r
 
 pub owned-spec : {M : Type 1} → statement M
 owned-spec =
@@ -21,9 +20,10 @@ owned-spec =
     (λ c. omega arith)
     (λ c. omega arith)
     (λ c. omega arith)
-    (λ c κs. search needs)
     (λ c. omega arith)
-    (λ c. search needs)
+    (λ c κs. omega arith)
+    (λ c. omega arith)
+    (λ c. omega arith)
     (λ c. omega arith)
     (λ c. omega arith)
     (λ c. omega arith)
