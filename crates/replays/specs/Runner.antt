@@ -11,7 +11,6 @@ use Rattle.base.specs.Pick.{pick}
 use Rattle.rules.specs.Sizes.{Settings, base}
 use Rattle.rules.specs.Words.{plus}
 use Rattle.rules.specs.Step.{State}
-use Rattle.frames.specs.Frames.{answerOf}
 use Rattle.replays.specs.declared.runner.Kept.{Kept}
 use Rattle.replays.specs.Replay.{Ran, ran, ranLine}
 
@@ -91,10 +90,17 @@ linesAfter l (b ∷ bs) = pick (eqb b 10) (cut l true ∷ linesAfter [] bs) (lin
 abbrev pub linesOf : List ℕ → List Cut
 linesOf = linesAfter []
 
+-- the bytes of lines, each with its newline
+unfoldable pub joined : List Cut → List ℕ
+joined [] = []
+joined (l ∷ ls) = l .bytes ++ pick (l .whole) (10 ∷ []) [] ++ joined ls
+
 -- lines one after another, the first of them the n-th
 unfoldable pub runLines : Settings → State → ℕ → List Cut → Ran
 runLines g s n [] = ran [] s
-runLines g s n (l ∷ ls) = followed (ranLine g s (l .bytes) (l .whole) n .text) (runLines g (ranLine g s (l .bytes) (l .whole) n .state) (plus n 1) ls)
+runLines g s n (l ∷ ls) =
+    let r = ranLine g s (l .bytes) (l .whole) n in
+    followed (r .text) (runLines g (r .state) (plus n 1) ls)
 
 -- ---- what a block leaves: its answers at the front of `out`, how many bytes they are, how many bytes were run
 pub record Left : Type 0 where

@@ -7,7 +7,7 @@ use mathlib.Core.List.{List, [], _∷_, _++_, append-assoc, append-nil}
 use lib.ListN.{length, take, drop, length-append, length-take}
 use lib.Seq.{take-all, length-take-le}
 use lib.Dec.{eqb, ltb, leb}
-use borrow.Author.Tests.{ne-eqb, le-ltb, leb-true, leb-false}
+use borrow.Author.Tests.{eqb-true, ne-eqb, le-ltb, leb-true, leb-false}
 use native.Mathlib.Omega.{arith}
 use Rattle.base.specs.Pick.{pick}
 use Rattle.rules.specs.Sizes.{Settings}
@@ -18,7 +18,7 @@ use Rattle.frames.specs.declared.Line.{Line}
 use Rattle.frames.specs.LineLaws.{line-other}
 use Rattle.texts.specs.LineLaws.{take-front}
 use Rattle.replays.specs.Replay.{Ran, ran, written, replyTo, ranLine}
-use Rattle.replays.specs.Runner.{Stand, stand, keep, Run, run, ends, runByte, behind, runBytes, fitting, runBlock, runEnd, followed, ended, runAll, Cut, cut, linesAfter, linesOf, runLines}
+use Rattle.replays.specs.Runner.{Stand, stand, keep, Run, run, ends, runByte, behind, runBytes, fitting, runBlock, runEnd, followed, ended, runAll, Cut, cut, linesAfter, linesOf, joined, runLines}
 
 -- ---- blocks: the bytes of two are run as one after the other
 pub cut-anywhere : (g : Settings) (p : Stand) (a b : List ℕ) → runBytes g p (a ++ b) ≡ behind (runBytes g p a .text) (runBytes g (runBytes g p a .then) b)
@@ -101,3 +101,17 @@ lines-after g s l n (b ∷ bs) =
 pub lines-answered : (g : Settings) (s : State) (l : List ℕ) → runAll g s l ≡ runLines g s 1 (linesOf l)
 unfolding runAll
 lines-answered g s l = lines-after g s [] 1 l
+
+-- ---- no byte is lost: the lines of an input are the input
+lines-joined-after : (l bs : List ℕ) → joined (linesAfter l bs) ≡ l ++ bs
+unfolding joined linesAfter
+lines-joined-after [] [] = refl
+lines-joined-after (x ∷ l) [] = rw (ne-eqb (length (x ∷ l)) 0 (λ z. omega arith)) (ap (λ (k : List ℕ). x ∷ k) (append-assoc l [] [] ∙ ap (λ (k : List ℕ). l ++ k) (append-nil [])))
+lines-joined-after l (b ∷ bs) = by (eqb b 10) refl (lines-joined-after [] bs) (lines-joined-after (l ++ b ∷ []) bs)
+  where
+    by : (t : Bool) → eqb b 10 ≡ t → joined (linesAfter [] bs) ≡ bs → joined (linesAfter (l ++ b ∷ []) bs) ≡ (l ++ b ∷ []) ++ bs → joined (linesAfter l (b ∷ bs)) ≡ l ++ b ∷ bs
+    by true e p q = rw (e, p) (append-assoc l (10 ∷ []) bs ∙ ap (λ (k : ℕ). l ++ k ∷ bs) (sym (eqb-true b 10 e)))
+    by false e p q = rw e (q ∙ append-assoc l (b ∷ []) bs)
+
+pub lines-joined : (l : List ℕ) → joined (linesOf l) ≡ l
+lines-joined l = lines-joined-after [] l
