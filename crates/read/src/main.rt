@@ -10,32 +10,25 @@
 ghost use Prim.Native.Nat.{_≤_};
 ghost use lib.ListN.{length};
 
-mod listing;
-mod names;
 mod options;
 mod output;
-mod seen;
-mod sight;
-mod text;
-mod told;
-mod why;
 
 use crate::options::EVERY;
 use crate::options::Options;
 use crate::output::emit;
-use crate::sight::Sight;
-use crate::sight::shown;
-use crate::text::byte;
-use crate::text::columns;
-use crate::text::say;
-use crate::told::BAD;
-use crate::told::START;
-use crate::told::Told;
 use frames::Line;
 use replays::Reply;
 use rules::Row;
+use sights::sight::Sight;
+use sights::sight::shown;
 use streams::Out;
 use streams::Window;
+use words::text::byte;
+use words::text::columns;
+use words::text::say;
+use words::told::BAD;
+use words::told::START;
+use words::told::Told;
 
 // Where a run is: the part of the input that is read and not yet run, and whether there may be more; the next line's
 // number; what is to be written; whether the replay's heading is, and whether anything is; the output buffer.
@@ -230,9 +223,9 @@ fn run_line(
     number: u64,
     l: Line,
 ) -> Ran {
-    let asked = told::by_line(l);
+    let asked = words::told::by_line(l);
     let row = rows::load_row(ids, words, asked.thread);
-    let w = told::in_row(asked, row);
+    let w = words::told::in_row(asked, row);
     let a = replays::reply_to(ids, next, state, words, guards, number, l);
     let n = counted(steps, w, a.number);
     let after = rows::load_row(ids, words, w.thread);
@@ -250,7 +243,7 @@ fn run_line(
 fn list(r: Ran, bytes: &[u8], whole: bool, out: &mut [u8], s: State) -> State {
     let h = heading(out, s);
     let mut text = [b' '; 100];
-    let n = listing::line(
+    let n = listings::line(
         &mut text,
         s.number,
         r.told,
@@ -268,7 +261,7 @@ fn list(r: Ran, bytes: &[u8], whole: bool, out: &mut [u8], s: State) -> State {
 
 fn numbers(r: Ran, out: &mut [u8], s: State) -> State {
     let mut text = [b' '; 320];
-    let n = listing::data(&mut text, s.number, r.told, r.before, r.seen, r.reply);
+    let n = listings::data(&mut text, s.number, r.told, r.before, r.seen, r.reply);
     let o = emit(out, out_of(s), &text, n);
     written(s, o, s.is_headed)
 }

@@ -1,6 +1,6 @@
 // What a line `#!` asks: `#! [from N] [to N] [thread N] [data] [title]`.
 ghost use Prim.Native.Nat.{_≤_};
-use crate::text::byte;
+use words::text::byte;
 
 // No thread has this number.
 pub const EVERY: u64 = 256;

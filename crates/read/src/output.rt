@@ -1,8 +1,8 @@
 // The lines of the output, through its buffer.
-use crate::text::byte;
-use crate::text::put;
-use crate::text::trimmed;
 use streams::Out;
+use words::text::byte;
+use words::text::put;
+use words::text::trimmed;
 
 // Room for the longest line.
 const ROOM: usize = 1024;

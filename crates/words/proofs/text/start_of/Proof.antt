@@ -1,0 +1,28 @@
+-- `text::start_of` meets its contract. Assumes nothing.
+use Prim.Native.Nat.{_≤_, _-_}
+use borrow.Author.Needs.{needs}
+use lib.ListN.{length}
+use native.Mathlib.Omega.{arith}
+use Rattle.words.proofs.text.start_of.Statement.{statement}
+use Rattle.words.proofs.text.start_of.Tie as tie
+
+abbrev Inv-loop : tie.InvT-loop
+Inv-loop words k left₀ i₀ left i = 0 ≤ i
+
+abbrev μ-loop : tie.MeasureT-loop
+μ-loop words k left₀ i₀ left i = length words - i
+
+pub start-of-spec : {M : Type 1} → statement M
+start-of-spec =
+    tie.close
+    (tie.spec
+    Inv-loop
+    μ-loop
+    (λ c. omega arith)
+    (λ c. search needs)
+    (λ c. omega arith)
+    (λ c κs. search needs)
+    (λ c. omega arith)
+    (λ c. omega arith)
+    (λ c. omega arith)
+    (λ c. omega arith))
