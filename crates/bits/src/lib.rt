@@ -1,4 +1,6 @@
 // The guarded set, a bit a node over any number of words, and the shard of an address.
+#![tactic(auto)]
+
 ghost use Rattle.std.specs.Prelude.{◌≡◌};
 ghost use Rattle.rules.specs.Sizes.{base};
 ghost use Rattle.rules.specs.Words.{is_guarded, guarded_also, none_guarded, shard_of};

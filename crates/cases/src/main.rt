@@ -5,6 +5,8 @@
 // more. Of any other line the last 21 bytes are a blank and the expected answer, and what stands before them is the
 // line of the replay, whatever its bytes. A last line without newline is run as one. After the first difference the
 // rest of a case is passed over.
+#![tactic(auto)]
+
 ghost use Rattle.std.specs.Prelude.{◌≡◌, ◌+◌, ◌≤◌, length};
 
 use libc::STDOUT_FILENO;

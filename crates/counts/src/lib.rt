@@ -1,4 +1,6 @@
 // The trigger and the due time. `count` is a signed number kept as a word: one with its top bit set is negative.
+#![tactic(auto)]
+
 ghost use Rattle.std.specs.Prelude.{◌≡◌};
 ghost use Rattle.rules.specs.Sizes.{base};
 ghost use Rattle.rules.specs.Words.{threshold, over, due_time};

@@ -1,4 +1,6 @@
 // The rules' words for effects, so that a place returns one of them.
+#![tactic(auto)]
+
 ghost use Rattle.std.specs.Prelude.{◌≡◌, false};
 ghost use Rattle.rules.specs.Rows.{idle};
 ghost use Rattle.rules.specs.Places.{answers, becomes, stores, also_stores, clears_guards, guarding, reclaims, closing, damaged};

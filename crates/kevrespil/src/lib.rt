@@ -1,5 +1,7 @@
 // The machine for C and for Rust: `start` and `step` under C's calling convention, over the five tables that the caller
 // lends. include/kevrespil.h says it in C's words.
+#![tactic(auto)]
+
 ghost use Rattle.std.specs.Prelude.{◌≡◌};
 ghost use Rattle.rules.specs.Sizes.{base};
 ghost use Rattle.rules.specs.Step.{lent, out, answer, step_of};

@@ -1,4 +1,6 @@
 // One line of the listing, and one line of numbers.
+#![tactic(auto)]
+
 use replays::Reply;
 use rules::{Row, kind};
 use sights::sight::{REFUSES, Sight};

@@ -1,4 +1,6 @@
 // Where a pass goes on: the rows between Check, the stolen lists and the test for done.
+#![tactic(auto)]
+
 ghost use Rattle.std.specs.Prelude.{◌≡◌, ◌-◌, ◌==◌};
 ghost use Rattle.rules.specs.Sizes.{base};
 ghost use Rattle.rules.specs.Places.{checked, passed, emptied, examine_at, examine_from, examined, after_free, shut_next, new_pass};

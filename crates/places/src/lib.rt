@@ -1,4 +1,6 @@
 // What each place's step accesses and does, by value.
+#![tactic(auto)]
+
 ghost use Rattle.std.specs.Prelude.{◌≡◌};
 ghost use Rattle.rules.specs.Places.{access_of, effect_of, follow_of};
 ghost use Rattle.rules.specs.Sizes.{base};

@@ -1,4 +1,6 @@
 // Protect and the tries, reset and raw; and the swap of a source.
+#![tactic(auto)]
+
 ghost use Rattle.std.specs.Prelude.{◌≡◌};
 ghost use Rattle.rules.specs.Sizes.{base};
 ghost use Rattle.rules.specs.Pc;

@@ -6,6 +6,7 @@
 //
 // With `data` a line is 13 numbers: line number; thread; 1 a start, 0 a step, 2 a bad line; operation; place; record;
 // source; node; the record whose hazard was stored to; answer number; answer value; `count`; record count.
+#![tactic(auto)]
 
 ghost use Rattle.std.specs.Prelude.{◌≤◌, length};
 

@@ -1,4 +1,5 @@
 // The places of Reclaim and of shutdown, by value.
+#![tactic(auto)]
 
 pub mod reclaim;
 pub mod shutdown;

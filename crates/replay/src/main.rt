@@ -1,4 +1,6 @@
 // Runs a replay: standard input to standard output, in blocks. What a block writes is the library's; this moves bytes.
+#![tactic(auto)]
+
 use libc::STDOUT_FILENO;
 use replays::runner;
 use streams::Window;

@@ -1,4 +1,6 @@
 // A replay, run on the lent tables: one line, and in `runner` blocks of them.
+#![tactic(auto)]
+
 ghost use Rattle.std.specs.Prelude.{◌≡◌};
 ghost use Rattle.rules.specs.Sizes.{base};
 ghost use Rattle.rules.specs.Step.{lent};

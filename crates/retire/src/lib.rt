@@ -1,4 +1,6 @@
 // Retire: T1 to T3 push the node, K1 to K4 check the count, E1 to E3 the time.
+#![tactic(auto)]
+
 ghost use Rattle.std.specs.Prelude.{◌≡◌};
 ghost use Rattle.rules.specs.Sizes.{base};
 ghost use Rattle.rules.specs.Pc;

@@ -1,4 +1,6 @@
 // A thread's row in the tables of ids and words, and the searches of the lent tables.
+#![tactic(auto)]
+
 ghost use Rattle.std.specs.Prelude.{◌≡◌, List, ℕ, ◌+◌, ◌*◌, ◌<◌, length, drop};
 ghost use Rattle.rules.specs.Sizes.{base, records, sources, nodes, row32, row64, threads, counter_cells, from_sources, from_records, from_rows};
 ghost use Rattle.rules.specs.Rows.{row_at, stored_from, row_fits};

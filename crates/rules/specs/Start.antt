@@ -68,19 +68,19 @@ busy rows32 records' = busy_by (any_above rows32 0 row32 0 0 threads) (any_above
 
 -- the first of the operation's own, in the table's order
 unfoldable pub refusal : List ℕ → List ℕ → List ℕ → List ℕ → ℕ → Operation → ℕ
-refusal records sources state rows32 t Acquire = 0
-refusal records sources state rows32 t (Release a) = not_owned records t a
-refusal records sources state rows32 t (Protect a b) = or_else (not_owned records t a) (not_source b)
-refusal records sources state rows32 t (Try a b n) = or_else (not_owned records t a) (or_else (not_source b) (not_node n))
-refusal records sources state rows32 t (TryProtect a b n) =
-    or_else (not_owned records t a) (or_else (not_source b) (not_node n))
-refusal records sources state rows32 t (Reset a) = not_owned records t a
-refusal records sources state rows32 t (Raw a n) = or_else (not_owned records t a) (not_node n)
-refusal records sources state rows32 t (Swap b n) = or_else (not_source b) (not_node n)
-refusal records sources state rows32 t (Retire n x) = not_retirable sources state n
-refusal records sources state rows32 t Eager = 0
-refusal records sources state rows32 t Cleanup = 0
-refusal records sources state rows32 t Shutdown = busy rows32 records
+refusal records' sources' state rows32 t Acquire = 0
+refusal records' sources' state rows32 t (Release a) = not_owned records' t a
+refusal records' sources' state rows32 t (Protect a b) = or_else (not_owned records' t a) (not_source b)
+refusal records' sources' state rows32 t (Try a b n) = or_else (not_owned records' t a) (or_else (not_source b) (not_node n))
+refusal records' sources' state rows32 t (TryProtect a b n) =
+    or_else (not_owned records' t a) (or_else (not_source b) (not_node n))
+refusal records' sources' state rows32 t (Reset a) = not_owned records' t a
+refusal records' sources' state rows32 t (Raw a n) = or_else (not_owned records' t a) (not_node n)
+refusal records' sources' state rows32 t (Swap b n) = or_else (not_source b) (not_node n)
+refusal records' sources' state rows32 t (Retire n x) = not_retirable sources' state n
+refusal records' sources' state rows32 t Eager = 0
+refusal records' sources' state rows32 t Cleanup = 0
+refusal records' sources' state rows32 t Shutdown = busy rows32 records'
 
 -- 18, 20, the operation's own n, and 29 for a damaged shutdown mark
 abbrev pub refuse_by : ℕ → ℕ → ℕ → ℕ

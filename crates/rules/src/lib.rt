@@ -1,4 +1,5 @@
 // The types of the rules and the sizes of the tables. The rules themselves are the antt files of specs/.
+#![tactic(auto)]
 
 pub mod kind;
 pub mod place;
@@ -40,14 +41,14 @@ pub const LIVE: u32 = 1;
 pub const WAITING: u32 = 2;
 
 // What comes back: document 01's number and value.
-#[derive(Drop)]
+#[derive(Clone, Copy)]
 pub struct Answer {
     pub number: u32,
     pub value: u64,
 }
 
 // What a start asks for. A node is compared at 64 bits before it is narrowed.
-#[derive(Drop)]
+#[derive(Clone, Copy)]
 pub enum Operation {
     Acquire,
     Release { rec: u32 },
@@ -64,7 +65,7 @@ pub enum Operation {
 }
 
 // A thread's row between two steps; all 0 while the thread is idle.
-#[derive(Drop)]
+#[derive(Clone, Copy)]
 pub struct Row {
     // The program place, and the operation by its kind in a frame.
     pub place: u32,
@@ -95,7 +96,7 @@ pub struct Row {
 }
 
 // A shared cell by name. 0 is no record, source or node.
-#[derive(Drop)]
+#[derive(Clone, Copy)]
 pub enum Named {
     Nothing,
     RecordHead,
@@ -117,7 +118,7 @@ pub enum Named {
 
 // A step's access, with its kind: a load; a store, which does not read; a store to a hazard; an exchange, swap or add;
 // a load and a store of a node that no other thread can reach.
-#[derive(Drop)]
+#[derive(Clone, Copy)]
 pub enum Access {
     Load(Named),
     Store(Named),
@@ -127,7 +128,7 @@ pub enum Access {
 }
 
 // What a cell may hold; the cell of an id that is none holds nothing.
-#[derive(Drop)]
+#[derive(Clone, Copy)]
 pub enum Class {
     Anything,
     ARecord,
@@ -139,7 +140,7 @@ pub enum Class {
 }
 
 // Where a cell stands, and the class of what it may hold.
-#[derive(Drop)]
+#[derive(Clone, Copy)]
 pub struct Cell {
     pub table: u32,
     pub at: u32,
@@ -148,7 +149,7 @@ pub struct Cell {
 
 // What a step saw: its cell (x, as an id v), the second cell (y, as an id w), the lowest row that is not taken,
 // whether the node to examine is guarded; and the step's thread, flag and clock.
-#[derive(Drop)]
+#[derive(Clone, Copy)]
 pub struct Seen {
     pub x: u64,
     pub v: u32,
@@ -162,7 +163,7 @@ pub struct Seen {
 }
 
 // What becomes of the thread's guarded set.
-#[derive(Drop)]
+#[derive(Clone, Copy)]
 pub enum Guards {
     Keep,
     Clear,
@@ -171,7 +172,7 @@ pub enum Guards {
 
 // What a step does: the row after it, its answer, whether its cell becomes `put`, that the cell `also` becomes `to`,
 // what becomes of the guarded set, and whether the record table is cleared.
-#[derive(Drop)]
+#[derive(Clone, Copy)]
 pub struct Effect {
     pub row: Row,
     pub number: u32,
@@ -185,7 +186,7 @@ pub struct Effect {
 }
 
 // What a start writes: the thread's row, and one cell.
-#[derive(Drop)]
+#[derive(Clone, Copy)]
 pub struct Entry {
     pub row: Row,
     pub cell: Named,

@@ -1,4 +1,6 @@
 // Standard input by blocks and by lines, and standard output through a buffer.
+#![tactic(auto)]
+
 ghost use Rattle.std.specs.Prelude.{◌-◌, ◌≤◌, length, ◌≡◌, false, eqb, ltb};
 ghost use Rattle.base.specs.Pick.{pick};
 

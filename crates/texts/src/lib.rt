@@ -1,4 +1,6 @@
 // Words and decimal numbers as bytes, written into a lent slice from an index on.
+#![tactic(auto)]
+
 ghost use Rattle.std.specs.Prelude.{◌≡◌, ◌+◌, ◌-◌, ◌≤◌, ◌<◌, length, take, drop, [], ◌∷◌, ◌++◌};
 ghost use Rattle.std.proofs.lemmas.List.Edits.{sets};
 ghost use Rattle.texts.specs.Lines.{up_to};

@@ -1,5 +1,7 @@
 // Runs a replay and writes behind each answer the shared cells that its line changed. What a line does is the
 // library's; this compares the tables with what they held before, and moves bytes.
+#![tactic(auto)]
+
 ghost use Rattle.std.specs.Prelude.{◌+◌, ◌≤◌, ◌<◌, length, ◌≡◌};
 
 use replays::runner;
