@@ -4,7 +4,7 @@
 ghost use Rattle.std.specs.Prelude.{◌-◌, ◌≤◌, length, ◌≡◌, false, eqb, ltb};
 ghost use Rattle.base.specs.Pick.{pick};
 
-use libc::{STDIN_FILENO, STDOUT_FILENO};
+use std::io::{Read, Write};
 
 // The part of the input buffer that is read and not yet taken.
 #[derive(Drop)]
@@ -13,8 +13,8 @@ pub struct Window {
     pub end: usize,
 }
 
-// More bytes are read where none are left; the part stays empty at the end of the input.
-pub fn more(input: &mut [u8], w: Window) -> Window
+// More bytes are read where none are left; the part stays empty at the end of the input, and where a read fails.
+pub fn more<R: Read>(from: &mut R, input: &mut [u8], w: Window) -> Window
     ensures { (result.at ≤ result.end) × (result.end ≤ length input.new) }
 {
     if w.at < w.end {
@@ -22,9 +22,10 @@ pub fn more(input: &mut [u8], w: Window) -> Window
             return w;
         }
     }
-    let got = libc::read(STDIN_FILENO, input);
-    let n = io::count(got, input);
-    Window { at: 0, end: n }
+    match from.read(input) {
+        Ok(n) => Window { at: 0, end: n },
+        Err(_) => Window { at: 0, end: 0 },
+    }
 }
 
 // A line of the input: its bytes in the line buffer, cut to what that holds; whether it has its newline; and what is
@@ -37,7 +38,7 @@ pub struct Line {
 }
 
 // The next line.
-pub fn read_line(input: &mut [u8], line: &mut [u8], w: Window) -> Line
+pub fn read_line<R: Read>(from: &mut R, input: &mut [u8], line: &mut [u8], w: Window) -> Line
     ensures { result.len ≤ length line.new }
 {
     let mut v = w;
@@ -45,7 +46,7 @@ pub fn read_line(input: &mut [u8], line: &mut [u8], w: Window) -> Line
     // A proved loop has to end; no line has so many blocks.
     let mut turns = u64::MAX;
     while turns > 0 {
-        v = more(input, v);
+        v = more(from, input, v);
         let at = v.at;
         let end = v.end;
         if at == end {
@@ -91,8 +92,8 @@ pub struct Out {
     pub open: bool,
 }
 
-// What the buffer holds is written out.
-pub fn flush(out: &[u8], o: Out) -> Out
+// What the buffer holds is written out. Where a write fails the output takes no more.
+pub fn flush<W: Write>(to: &mut W, out: &[u8], o: Out) -> Out
     ensures { result.used ≡ 0 }
 {
     let used = o.used;
@@ -100,7 +101,7 @@ pub fn flush(out: &[u8], o: Out) -> Out
         if used <= out.len() {
             let from = 0usize;
             let full = &out[from..used];
-            let is_written = io::write_all(STDOUT_FILENO, full);
+            let is_written = to.write_all(full).is_ok();
             return Out {
                 used: 0,
                 open: is_written,
@@ -114,17 +115,17 @@ pub fn flush(out: &[u8], o: Out) -> Out
 }
 
 // The same before the program waits for more input.
-pub fn settle(out: &[u8], o: Out, w: Window) -> Out
+pub fn settle<W: Write>(to: &mut W, out: &[u8], o: Out, w: Window) -> Out
     ensures { result.used ≡ pick (ltb w.at w.end) o.used 0 }
 {
     if w.at < w.end {
         return o;
     }
-    flush(out, o)
+    flush(to, out, o)
 }
 
 // Room for n bytes, if the buffer has so many: it is written out where fewer are left.
-pub fn room(out: &[u8], o: Out, n: usize) -> Out
+pub fn room<W: Write>(to: &mut W, out: &[u8], o: Out, n: usize) -> Out
     ensures { result.used ≤ length out.now - n }
 {
     if o.used <= out.len() {
@@ -132,5 +133,5 @@ pub fn room(out: &[u8], o: Out, n: usize) -> Out
             return o;
         }
     }
-    flush(out, o)
+    flush(to, out, o)
 }

@@ -1,0 +1,5 @@
+use Rattle.frames.specs.LineLaws.{fields_fit}
+use Rattle.frames.proofs.read_digits.Goals as goal
+
+pub framed-requires : goal.framed-requires
+framed-requires c = search fields_fit
