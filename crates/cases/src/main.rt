@@ -9,8 +9,8 @@
 
 ghost use Rattle.std.specs.Prelude.{◌≡◌, ◌+◌, ◌≤◌, length};
 
-use libc::STDOUT_FILENO;
 use replays::runner;
+use std::io::{Read, Write};
 use streams::Window;
 
 // How many bytes an expected answer has, and with the blank before it.
@@ -70,40 +70,37 @@ fn is_again(line: &[u8], n: usize) -> bool
     line[0] == b'.'
 }
 
-fn say(bytes: &[u8], from: usize, to: usize)
+fn say<W: Write>(stdout: &mut W, bytes: &[u8], from: usize, to: usize)
     requires { (from ≤ to) × (to ≤ length bytes.now) }
 {
     let part = &bytes[from..to];
-    io::write_all(STDOUT_FILENO, part);
+    let _ = stdout.write_all(part);
 }
 
-fn say_line(name: &[u8], n: usize, number: u64)
+fn say_line<W: Write>(stdout: &mut W, name: &[u8], n: usize, number: u64)
     requires { n ≤ length name.now }
 {
-    say(name, 0, n);
-    io::write_all(STDOUT_FILENO, b": line ");
-    io::print_decimal(STDOUT_FILENO, number);
+    say(stdout, name, 0, n);
+    let _ = write!(stdout, ": line {number}");
 }
 
 // The expected answer is the last 20 of the line's m bytes.
-fn say_differ(line: &[u8], m: usize, text: [u8; 21])
+fn say_differ<W: Write>(stdout: &mut W, line: &[u8], m: usize, text: [u8; 21])
     requires { (20 ≤ m) × (m ≤ length line.now) }
 {
-    io::write_all(STDOUT_FILENO, b": expected ");
-    say(line, m - EXPECTED, m);
-    io::write_all(STDOUT_FILENO, b", answered ");
-    io::write_all(STDOUT_FILENO, &text);
+    let _ = stdout.write_all(b": expected ");
+    say(stdout, line, m - EXPECTED, m);
+    let _ = stdout.write_all(b", answered ");
+    let _ = stdout.write_all(&text);
 }
 
 // The end of a case: how many of its lines agreed, if all did.
-fn close(name: &[u8], n: usize, lines: u64, open: bool)
+fn close<W: Write>(stdout: &mut W, name: &[u8], n: usize, lines: u64, open: bool)
     requires { n ≤ length name.now }
 {
     if open {
-        say(name, 0, n);
-        io::write_all(STDOUT_FILENO, b": ");
-        io::print_decimal(STDOUT_FILENO, lines);
-        io::write_all(STDOUT_FILENO, b" lines agree\n");
+        say(stdout, name, 0, n);
+        let _ = writeln!(stdout, ": {lines} lines agree");
     }
 }
 
@@ -151,7 +148,8 @@ fn answered(text: [u8; 21], kept: runner::Kept, whole: bool) -> [u8; 21] {
 
 // Whether the line of m bytes got its expected answer, and every line of the case before it; says so of the first that
 // did not.
-fn agrees(
+fn agrees<W: Write>(
+    stdout: &mut W,
     last: &[u8],
     m: usize,
     text: [u8; 21],
@@ -166,15 +164,15 @@ fn agrees(
         return false;
     }
     if m < BEHIND {
-        say_line(name, n, number);
-        io::write_all(STDOUT_FILENO, b": no expected answer\n");
+        say_line(stdout, name, n, number);
+        let _ = stdout.write_all(b": no expected answer\n");
         return false;
     }
     if is_same(last, m - EXPECTED, text) {
         return true;
     }
-    say_line(name, n, number);
-    say_differ(last, m, text);
+    say_line(stdout, name, n, number);
+    say_differ(stdout, last, m, text);
     false
 }
 
@@ -190,7 +188,15 @@ fn ended(w: Window) -> Progress
 }
 
 // One case, up to the name of the next.
-fn run(input: &mut [u8], line: &mut [u8], last: &mut [u8], name: &mut [u8], p: Progress) -> Progress
+fn run<R: Read, W: Write>(
+    stdin: &mut R,
+    stdout: &mut W,
+    input: &mut [u8],
+    line: &mut [u8],
+    last: &mut [u8],
+    name: &mut [u8],
+    p: Progress,
+) -> Progress
     requires { (length line.old ≡ 400) × (length last.old ≡ 400) × (length name.old ≡ 400) × (p.name ≤ 400) }
     ensures { result.name ≤ 400 }
 {
@@ -207,16 +213,16 @@ fn run(input: &mut [u8], line: &mut [u8], last: &mut [u8], name: &mut [u8], p: P
     // A proved loop has to end; no input has so many lines.
     let mut turns = u64::MAX;
     while turns > 0 {
-        let r = streams::read_line(input, line, w);
+        let r = streams::read_line(stdin, input, line, w);
         w = r.left;
         let n = r.len;
         if streams::is_end(r) {
-            close(name, p.name, number, open);
+            close(stdout, name, p.name, number, open);
             return ended(w);
         }
         let at = name_at(line, n);
         if at > 0 {
-            close(name, p.name, number, open);
+            close(stdout, name, p.name, number, open);
             let part = &line[at..n];
             let k = texts::fill(name, 0, part);
             return Progress {
@@ -242,13 +248,15 @@ fn run(input: &mut [u8], line: &mut [u8], last: &mut [u8], name: &mut [u8], p: P
             &mut text,
         );
         let a = answered(text, b.kept, r.whole);
-        open = agrees(last, m, a, number, name, p.name, open);
+        open = agrees(stdout, last, m, a, number, name, p.name, open);
         turns -= 1;
     }
     ended(w)
 }
 
-fn main() {
+fn main(rt: HostRuntime) {
+    let mut stdin = rt.stdin();
+    let mut stdout = rt.stdout();
     let mut input = [0u8; 16384];
     let mut line = [0u8; 400];
     let mut last = [0u8; 400];
@@ -262,7 +270,15 @@ fn main() {
     // No input has so many cases.
     let mut turns = u64::MAX;
     while turns > 0 {
-        p = run(&mut input, &mut line, &mut last, &mut name, p);
+        p = run(
+            &mut stdin,
+            &mut stdout,
+            &mut input,
+            &mut line,
+            &mut last,
+            &mut name,
+            p,
+        );
         if !p.more {
             break;
         }

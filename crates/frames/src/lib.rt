@@ -11,7 +11,7 @@ ghost use Rattle.frames.specs.Frames.{Fit, fields_in, unused, kinds, framed, lin
 use rules::{Operation, kind};
 
 // A line of the input: a step, a start, or no frame.
-#[derive(Drop)]
+#[derive(Clone, Copy)]
 pub enum Line {
     Step { thread: u32, flag: bool, clock: u64 },
     Start { thread: u32, operation: Operation },
@@ -19,7 +19,7 @@ pub enum Line {
 }
 
 // The numbers of a frame.
-#[derive(Drop)]
+#[derive(Clone, Copy)]
 pub struct Fields {
     pub kind: u64,
     pub thread: u64,

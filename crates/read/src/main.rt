@@ -19,13 +19,14 @@ use frames::Line;
 use replays::Reply;
 use rules::Row;
 use sights::sight::{Sight, shown};
+use std::io::{Read, Write};
 use streams::{Out, Window};
 use words::text::{byte, columns, say};
 use words::told::{BAD, START, Told};
 
 // Where a run is: the part of the input that is read and not yet run, and whether there may be more; the next line's
 // number; what is to be written; whether the replay's heading is, and whether anything is; the output buffer.
-#[derive(Drop)]
+#[derive(Clone, Copy)]
 struct State {
     at: usize,
     end: usize,
@@ -79,42 +80,42 @@ fn out_of(s: State) -> Out {
 }
 
 // The names of the columns, once for a replay.
-fn heading(out: &mut [u8], s: State) -> State {
+fn heading<W: Write>(stdout: &mut W, out: &mut [u8], s: State) -> State {
     if s.is_headed {
         return s;
     }
     let words = b"  line thr what                       access                  no answer";
-    let o = emit(out, out_of(s), words, words.len());
+    let o = emit(stdout, out, out_of(s), words, words.len());
     written(s, o, true)
 }
 
-fn blank(out: &mut [u8], s: State) -> State {
+fn blank<W: Write>(stdout: &mut W, out: &mut [u8], s: State) -> State {
     if s.is_begun {
-        let o = emit(out, out_of(s), b"", 0);
+        let o = emit(stdout, out, out_of(s), b"", 0);
         return written(s, o, s.is_headed);
     }
     s
 }
 
-fn titled(bytes: &[u8], at: usize, out: &mut [u8], s: State) -> State
+fn titled<W: Write>(bytes: &[u8], at: usize, stdout: &mut W, out: &mut [u8], s: State) -> State
     requires { at ≤ length bytes.now }
 {
     let mut text = [b' '; 512];
     let k = say(&mut text, 0, b"== ");
     let name = &bytes[at..];
     say(&mut text, k, name);
-    let o = emit(out, out_of(s), &text, columns(&text, 100));
+    let o = emit(stdout, out, out_of(s), &text, columns(&text, 100));
     written(s, o, false)
 }
 
 // A title begins a part of the listing.
-fn title(bytes: &[u8], at: usize, out: &mut [u8], s: State) -> State {
+fn title<W: Write>(bytes: &[u8], at: usize, stdout: &mut W, out: &mut [u8], s: State) -> State {
     if s.data {
         return s;
     }
-    let b = blank(out, s);
+    let b = blank(stdout, out, s);
     if at < bytes.len() {
-        return titled(bytes, at, out, b);
+        return titled(bytes, at, stdout, out, b);
     }
     b
 }
@@ -137,9 +138,9 @@ fn begun(s: State, o: Options) -> State {
     }
 }
 
-fn begin(bytes: &[u8], out: &mut [u8], s: State) -> State {
+fn begin<W: Write>(bytes: &[u8], stdout: &mut W, out: &mut [u8], s: State) -> State {
     let o = options::all(bytes);
-    title(bytes, options::skip(bytes, o.at), out, begun(s, o))
+    title(bytes, options::skip(bytes, o.at), stdout, out, begun(s, o))
 }
 
 // Whether the next line's number is among those that are asked for.
@@ -163,13 +164,13 @@ fn is_shown(s: State, w: Told) -> bool {
     false
 }
 
-fn comment(bytes: &[u8], out: &mut [u8], s: State) -> State {
+fn comment<W: Write>(bytes: &[u8], stdout: &mut W, out: &mut [u8], s: State) -> State {
     if s.data {
         return s;
     }
     if is_within(s) {
-        let h = heading(out, s);
-        let o = emit(out, out_of(h), bytes, columns(bytes, 100));
+        let h = heading(stdout, out, s);
+        let o = emit(stdout, out, out_of(h), bytes, columns(bytes, 100));
         return written(h, o, true);
     }
     s
@@ -235,30 +236,44 @@ fn run_line(
     }
 }
 
-fn list(r: Ran, bytes: &[u8], whole: bool, out: &mut [u8], s: State) -> State {
-    let h = heading(out, s);
+fn list<W: Write>(
+    r: Ran,
+    bytes: &[u8],
+    whole: bool,
+    stdout: &mut W,
+    out: &mut [u8],
+    s: State,
+) -> State {
+    let h = heading(stdout, out, s);
     let mut text = [b' '; 100];
     let n = listings::line(
         &mut text, s.number, r.told, r.before, r.after, r.seen, r.reply, r.steps, bytes, whole,
     );
-    let o = emit(out, out_of(h), &text, n);
+    let o = emit(stdout, out, out_of(h), &text, n);
     written(h, o, true)
 }
 
-fn numbers(r: Ran, out: &mut [u8], s: State) -> State {
+fn numbers<W: Write>(r: Ran, stdout: &mut W, out: &mut [u8], s: State) -> State {
     let mut text = [b' '; 320];
     let n = listings::data(&mut text, s.number, r.told, r.before, r.seen, r.reply);
-    let o = emit(out, out_of(s), &text, n);
+    let o = emit(stdout, out, out_of(s), &text, n);
     written(s, o, s.is_headed)
 }
 
 // A line that was run is written.
-fn report(r: Ran, bytes: &[u8], whole: bool, out: &mut [u8], s: State) -> State {
+fn report<W: Write>(
+    r: Ran,
+    bytes: &[u8],
+    whole: bool,
+    stdout: &mut W,
+    out: &mut [u8],
+    s: State,
+) -> State {
     if is_shown(s, r.told) {
         if s.data {
-            return numbers(r, out, s);
+            return numbers(r, stdout, out, s);
         }
-        return list(r, bytes, whole, out, s);
+        return list(r, bytes, whole, stdout, out, s);
     }
     s
 }
@@ -299,7 +314,14 @@ fn is_over(l: streams::Line, s: State) -> bool {
 }
 
 // A replay, up to the line that begins the next.
-fn run(input: &mut [u8], line: &mut [u8], out: &mut [u8], begun: State) -> State {
+fn run<R: Read, W: Write>(
+    stdin: &mut R,
+    input: &mut [u8],
+    line: &mut [u8],
+    stdout: &mut W,
+    out: &mut [u8],
+    begun: State,
+) -> State {
     let mut ids = [0u32; 4507];
     let mut next = [0u32; 4096];
     let mut state = [0u32; 4096];
@@ -310,7 +332,7 @@ fn run(input: &mut [u8], line: &mut [u8], out: &mut [u8], begun: State) -> State
     // A proved loop has to end; no input has so many lines.
     let mut turns = u64::MAX;
     while turns > 0 {
-        let r = streams::read_line(input, line, window(s));
+        let r = streams::read_line(stdin, input, line, window(s));
         s = read_on(s, r.left);
         if is_over(r, s) {
             return ended(s);
@@ -320,9 +342,9 @@ fn run(input: &mut [u8], line: &mut [u8], out: &mut [u8], begun: State) -> State
         let bytes = &line[from..n];
         if byte(bytes, 0) == b'#' {
             if byte(bytes, 1) == b'!' {
-                return begin(bytes, out, s);
+                return begin(bytes, stdout, out, s);
             }
-            s = comment(bytes, out, s);
+            s = comment(bytes, stdout, out, s);
             turns -= 1;
             continue;
         }
@@ -337,13 +359,15 @@ fn run(input: &mut [u8], line: &mut [u8], out: &mut [u8], begun: State) -> State
             s.number,
             l,
         );
-        s = counted_on(report(t, bytes, r.whole, out, s));
+        s = counted_on(report(t, bytes, r.whole, stdout, out, s));
         turns -= 1;
     }
     ended(s)
 }
 
-fn main() {
+fn main(rt: HostRuntime) {
+    let mut stdin = rt.stdin();
+    let mut stdout = rt.stdout();
     let mut input = [0u8; 16384];
     let mut line = [0u8; 512];
     let mut out = [0u8; 16384];
@@ -364,12 +388,12 @@ fn main() {
     // No input has so many replays.
     let mut turns = u64::MAX;
     while turns > 0 {
-        s = run(&mut input, &mut line, &mut out, s);
+        s = run(&mut stdin, &mut input, &mut line, &mut stdout, &mut out, s);
         if s.more {
             turns -= 1;
         } else {
             turns = 0;
         }
     }
-    streams::flush(&out, out_of(s));
+    streams::flush(&mut stdout, &out, out_of(s));
 }

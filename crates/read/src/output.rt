@@ -1,4 +1,5 @@
 // The lines of the output, through its buffer.
+use std::io::Write;
 use streams::Out;
 use words::text::{byte, put, trimmed};
 
@@ -16,8 +17,8 @@ fn copy(out: &mut [u8], at: usize, text: &[u8], n: usize) -> usize {
 }
 
 // The first n bytes of a text, without the blanks at their end, as a line.
-pub fn emit(out: &mut [u8], o: Out, text: &[u8], n: usize) -> Out {
-    let r = streams::room(out, o, ROOM);
+pub fn emit<W: Write>(stdout: &mut W, out: &mut [u8], o: Out, text: &[u8], n: usize) -> Out {
+    let r = streams::room(stdout, out, o, ROOM);
     let e = copy(out, r.used, text, trimmed(text, n));
     let f = put(out, e, b'\n');
     Out {

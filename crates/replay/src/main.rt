@@ -1,11 +1,13 @@
 // Runs a replay: standard input to standard output, in blocks. What a block writes is the library's; this moves bytes.
 #![tactic(auto)]
 
-use libc::STDOUT_FILENO;
 use replays::runner;
+use std::io::Write;
 use streams::Window;
 
-fn main() {
+fn main(rt: HostRuntime) {
+    let mut stdin = rt.stdin();
+    let mut stdout = rt.stdout();
     let mut ids = [0u32; 4507];
     let mut next = [0u32; 4096];
     let mut state = [0u32; 4096];
@@ -18,7 +20,7 @@ fn main() {
     // A proved loop has to end; no input has so many blocks.
     let mut turns = u64::MAX;
     while turns > 0 {
-        w = streams::more(&mut input, w);
+        w = streams::more(&mut stdin, &mut input, w);
         let at = w.at;
         let end = w.end;
         let part = &input[at..end];
@@ -40,7 +42,7 @@ fn main() {
         let used = b.used;
         let from = 0usize;
         let answers = &out[from..used];
-        let is_written = io::write_all(STDOUT_FILENO, answers);
+        let is_written = stdout.write_all(answers).is_ok();
         if at == end {
             break;
         }
@@ -54,5 +56,5 @@ fn main() {
     let n = e.used;
     let from = 0usize;
     let last = &text[from..n];
-    io::write_all(STDOUT_FILENO, last);
+    let _ = stdout.write_all(last);
 }

@@ -11,7 +11,7 @@ use frames::Line;
 pub mod runner;
 
 // An answer with the thread that stands before its value.
-#[derive(Drop)]
+#[derive(Clone, Copy)]
 pub struct Reply {
     pub number: u32,
     pub thread: u32,

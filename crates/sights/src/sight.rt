@@ -15,7 +15,7 @@ const HOLDER: usize = 3;
 // The first of the numbers that refuse.
 pub const REFUSES: u32 = 16;
 
-#[derive(Drop)]
+#[derive(Clone, Copy)]
 pub struct Sight {
     // What a step loaded; `count` and the record count.
     pub loaded: u64,

@@ -7,7 +7,7 @@ ghost use Rattle.base.specs.Pick.{pick};
 use std::io::{Read, Write};
 
 // The part of the input buffer that is read and not yet taken.
-#[derive(Drop)]
+#[derive(Clone, Copy)]
 pub struct Window {
     pub at: usize,
     pub end: usize,
@@ -30,7 +30,7 @@ pub fn more<R: Read>(from: &mut R, input: &mut [u8], w: Window) -> Window
 
 // A line of the input: its bytes in the line buffer, cut to what that holds; whether it has its newline; and what is
 // left of the input buffer. At the end of the input a line has no bytes and no newline.
-#[derive(Drop)]
+#[derive(Clone, Copy)]
 pub struct Line {
     pub len: usize,
     pub whole: bool,
@@ -86,7 +86,7 @@ pub fn is_end(l: Line) -> bool
 }
 
 // The output buffer: how many bytes it holds, and whether the output still takes any.
-#[derive(Drop)]
+#[derive(Clone, Copy)]
 pub struct Out {
     pub used: usize,
     pub open: bool,

@@ -6,6 +6,7 @@ ghost use Rattle.std.specs.Prelude.{◌+◌, ◌≤◌, ◌<◌, length, ◌≡�
 
 use replays::runner;
 use rules::{FROM_RECORDS, FROM_ROWS, FROM_SOURCES};
+use std::io::Write;
 use streams::{Out, Window};
 
 // Room for the longest line.
@@ -152,12 +153,13 @@ fn differs(cells: &[u32], seen: &[u32], off: usize, from: usize, to: usize) -> u
 }
 
 // Cell i of a table may have changed.
-fn change(
+fn change<W: Write>(
     table: u32,
     cells: &[u32],
     seen: &mut [u32],
     off: usize,
     i: usize,
+    stdout: &mut W,
     out: &mut [u8],
     o: Out,
 ) -> Out
@@ -169,7 +171,7 @@ fn change(
         return o;
     }
     seen[at] = x;
-    let r = streams::room(out, o, ROOM);
+    let r = streams::room(stdout, out, o, ROOM);
     let used = cell_line(table, out, r.used, i, wide(x));
     Out {
         used: used,
@@ -178,13 +180,21 @@ fn change(
 }
 
 // The ids from `from` to `to` that differ from what was seen.
-fn id_changes(ids: &[u32], seen: &mut [u32], from: usize, to: usize, out: &mut [u8], o: Out) -> Out
+fn id_changes<W: Write>(
+    ids: &[u32],
+    seen: &mut [u32],
+    from: usize,
+    to: usize,
+    stdout: &mut W,
+    out: &mut [u8],
+    o: Out,
+) -> Out
     requires { (from ≤ to) × (to ≤ length ids.now) × (to ≤ length seen.old) × (128 ≤ length out.old) }
 {
     let mut b = o;
     let mut i = differs(ids, seen, 0, from, to);
     while i < to {
-        b = change(IDS, ids, seen, 0, i, out, b);
+        b = change(IDS, ids, seen, 0, i, stdout, out, b);
         i = differs(ids, seen, 0, i + 1, to);
     }
     b
@@ -203,21 +213,35 @@ fn node_from(next: &[u32], state: &[u32], seen: &[u32], from: usize) -> usize
     b
 }
 
-fn node_changes(next: &[u32], state: &[u32], seen: &mut [u32], out: &mut [u8], o: Out) -> Out
+fn node_changes<W: Write>(
+    next: &[u32],
+    state: &[u32],
+    seen: &mut [u32],
+    stdout: &mut W,
+    out: &mut [u8],
+    o: Out,
+) -> Out
     requires { (length next.now ≡ 4096) × (length state.now ≡ 4096) × (length seen.old ≡ 12363) × (128 ≤ length out.old) }
 {
     let mut b = o;
     let mut i = node_from(next, state, seen, 0);
     while i < CELLS {
-        b = change(NEXT, next, seen, SEEN_NEXT, i, out, b);
-        b = change(STATE, state, seen, SEEN_STATE, i, out, b);
+        b = change(NEXT, next, seen, SEEN_NEXT, i, stdout, out, b);
+        b = change(STATE, state, seen, SEEN_STATE, i, stdout, out, b);
         i = node_from(next, state, seen, i + 1);
     }
     b
 }
 
 // Counter i may have changed.
-fn counter(words: &[u64], seen: &mut [u64], i: usize, out: &mut [u8], o: Out) -> Out
+fn counter<W: Write>(
+    words: &[u64],
+    seen: &mut [u64],
+    i: usize,
+    stdout: &mut W,
+    out: &mut [u8],
+    o: Out,
+) -> Out
     requires { 128 ≤ length out.old }
 {
     let x = tables::word(words, i);
@@ -225,7 +249,7 @@ fn counter(words: &[u64], seen: &mut [u64], i: usize, out: &mut [u8], o: Out) ->
         return o;
     }
     tables::put_word(seen, i, x);
-    let r = streams::room(out, o, ROOM);
+    let r = streams::room(stdout, out, o, ROOM);
     let used = counter_line(out, r.used, i, x);
     Out {
         used: used,
@@ -233,40 +257,47 @@ fn counter(words: &[u64], seen: &mut [u64], i: usize, out: &mut [u8], o: Out) ->
     }
 }
 
-fn counter_changes(words: &[u64], seen: &mut [u64], out: &mut [u8], o: Out) -> Out
+fn counter_changes<W: Write>(
+    words: &[u64],
+    seen: &mut [u64],
+    stdout: &mut W,
+    out: &mut [u8],
+    o: Out,
+) -> Out
     requires { 128 ≤ length out.old }
 {
-    let o1 = counter(words, seen, 0, out, o);
-    let o2 = counter(words, seen, 1, out, o1);
-    let o3 = counter(words, seen, 2, out, o2);
-    counter(words, seen, 3, out, o3)
+    let o1 = counter(words, seen, 0, stdout, out, o);
+    let o2 = counter(words, seen, 1, stdout, out, o1);
+    let o3 = counter(words, seen, 2, stdout, out, o2);
+    counter(words, seen, 3, stdout, out, o3)
 }
 
 // Every cell that differs from what was seen, in the order of their names.
-fn report(
+fn report<W: Write>(
     ids: &[u32],
     next: &[u32],
     state: &[u32],
     words: &[u64],
     seen: &mut [u32],
     counters: &mut [u64],
+    stdout: &mut W,
     out: &mut [u8],
     o: Out,
 ) -> Out
     requires { (length ids.now ≡ 4507) × (length next.now ≡ 4096) × (length state.now ≡ 4096) × (length seen.old ≡ 12363) × (128 ≤ length out.old) }
 {
-    let o1 = id_changes(ids, seen, 0, FROM_SOURCES, out, o);
-    let o2 = counter_changes(words, counters, out, o1);
-    let o3 = id_changes(ids, seen, FROM_RECORDS, FROM_ROWS, out, o2);
-    let o4 = id_changes(ids, seen, FROM_SOURCES, FROM_RECORDS, out, o3);
-    node_changes(next, state, seen, out, o4)
+    let o1 = id_changes(ids, seen, 0, FROM_SOURCES, stdout, out, o);
+    let o2 = counter_changes(words, counters, stdout, out, o1);
+    let o3 = id_changes(ids, seen, FROM_RECORDS, FROM_ROWS, stdout, out, o2);
+    let o4 = id_changes(ids, seen, FROM_SOURCES, FROM_RECORDS, stdout, out, o3);
+    node_changes(next, state, seen, stdout, out, o4)
 }
 
 // The first n bytes of an answer's text.
-fn answer(out: &mut [u8], o: Out, text: [u8; 21], n: usize) -> Out
+fn answer<W: Write>(stdout: &mut W, out: &mut [u8], o: Out, text: [u8; 21], n: usize) -> Out
     requires { (n ≤ 21) × (128 ≤ length out.old) }
 {
-    let r = streams::room(out, o, ROOM);
+    let r = streams::room(stdout, out, o, ROOM);
     let from = 0usize;
     let part = &text[from..n];
     let used = texts::word(out, r.used, part);
@@ -276,7 +307,9 @@ fn answer(out: &mut [u8], o: Out, text: [u8; 21], n: usize) -> Out
     }
 }
 
-fn main() {
+fn main(rt: HostRuntime) {
+    let mut stdin = rt.stdin();
+    let mut stdout = rt.stdout();
     let mut ids = [0u32; 4507];
     let mut next = [0u32; 4096];
     let mut state = [0u32; 4096];
@@ -296,11 +329,11 @@ fn main() {
     // A proved loop has to end; no input has so many lines.
     let mut turns = u64::MAX;
     while turns > 0 {
-        o = streams::settle(&out, o, w);
+        o = streams::settle(&mut stdout, &out, o, w);
         if !o.open {
             break;
         }
-        w = streams::more(&mut input, w);
+        w = streams::more(&mut stdin, &mut input, w);
         let at = w.at;
         let end = w.end;
         if at == end {
@@ -322,7 +355,7 @@ fn main() {
             at: at + b.taken,
             end: end,
         };
-        o = answer(&mut out, o, text, b.used);
+        o = answer(&mut stdout, &mut out, o, text, b.used);
         o = report(
             &ids,
             &next,
@@ -330,6 +363,7 @@ fn main() {
             &words,
             &mut seen,
             &mut counters,
+            &mut stdout,
             &mut out,
             o,
         );
@@ -337,6 +371,6 @@ fn main() {
     }
     let e = runner::finish(kept);
     let last = e.text;
-    o = answer(&mut out, o, last, e.used);
-    streams::flush(&out, o);
+    o = answer(&mut stdout, &mut out, o, last, e.used);
+    streams::flush(&mut stdout, &out, o);
 }

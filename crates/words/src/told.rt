@@ -9,7 +9,7 @@ pub const START: u32 = 1;
 pub const BAD: u32 = 2;
 
 // What a line asks: its form, thread, operation and arguments, and whether a weak exchange is told to fail.
-#[derive(Drop)]
+#[derive(Clone, Copy)]
 pub struct Told {
     pub form: u32,
     pub thread: u32,
