@@ -1,7 +1,7 @@
 -- The parts of a lent table: a word of a part read and written, and what that leaves of the others.
-use Rattle.std.specs.Prelude.{◌≡◌, ℕ, ◌+◌, ◌-◌, ◌*◌, ◌<◌, ◌≤◌, min, Bool, true, false, ◌⊎◌, List, [], length, take, drop, set, replicate, nat_lt, slice_index, slice_index_or, slice_set}
+use Rattle.std.specs.Prelude.{◌≡◌, ℕ, ◌+◌, ◌-◌, ◌<◌, ◌≤◌, min, Bool, true, false, ◌⊎◌, List, length, take, drop, set, replicate, nat_lt, slice_index, slice_index_or, slice_set}
 use Rattle.std.proofs.Math.Path.{refl, sym, ap}
-use Rattle.std.proofs.Common.{◌∙◌, inl, inr, length-set, length-drop, get_or-take, get_or-drop, ext_get_or}
+use Rattle.std.proofs.Common.{◌∙◌, inl, inr, length-drop, get_or-take, get_or-drop, ext_get_or}
 use Rattle.std.proofs.Math.ListN.{length-take, get_or-eq_default}
 use Rattle.std.proofs.lemmas.List.{length-replicate, get_or-replicate, drop-set-add}
 use Rattle.std.proofs.Math.Seq.{take-set-le, take-set-lt, drop-set-lt, set_out}
