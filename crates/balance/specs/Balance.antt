@@ -3,9 +3,8 @@ use Rattle.std.specs.Prelude.{◌≡◌, ◌≢◌, ◌⊎◌, false, List, [], 
 use Rattle.std.proofs.Math.Path.{refl, sym}
 use Rattle.std.proofs.Common.{ap, ◌∙◌, subst, inl, inr, arith, length-set, get_or-set_same, get_or-set_other, eqb-true, ltb-false, le-ltb}
 use Rattle.std.proofs.Math.Decide.{ℕ_discrete, dec_lt}
-use Rattle.rules.specs.Sizes.{records, steps, nodes, Settings}
+use Rattle.rules.specs.Sizes.{records, steps, Settings}
 use Rattle.rules.specs.Words.{plus, over, threshold}
-use Rattle.rules.specs.Pc
 use Rattle.rules.specs.Pc.{Pc, pc_of, code}
 use Rattle.rules.specs.Rows.{idle, shard_in, stolen_from}
 use Rattle.rules.specs.Places.{checked, passed, emptied, examine_from, examined, after_free}

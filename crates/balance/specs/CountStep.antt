@@ -7,13 +7,12 @@ use native.Mathlib.Omega.{arith}
 use Rattle.std.proofs.Math.ListN.{length, get_or}
 use Rattle.rules.specs.Sizes.{records, steps, nodes, threads, Settings}
 use Rattle.rules.specs.Words.{plus, over}
-use Rattle.rules.specs.Pc
 use Rattle.rules.specs.Pc.{Pc, pc_of, code}
 use Rattle.rules.specs.Rows.{idle, go_to, taking, counting, freeing, reclaiming}
 use Rattle.rules.specs.Places.{accesses, does, ends, becomes, stores, checked, after_free}
 use Rattle.rules.specs.Start.{begins, narrow, fresh_at}
 use Rattle.rules.specs.declared.Operation.{Operation}
-use Rattle.rules.specs.declared.Operation.TheVariants.{Swap, Retire, Shutdown}
+use Rattle.rules.specs.declared.Operation.TheVariants.{Retire, Shutdown}
 use Rattle.rules.specs.declared.Row.{Row}
 use Rattle.rules.specs.declared.Seen.{Seen}
 use Rattle.rules.specs.declared.Effect.{Effect}

@@ -4,7 +4,6 @@ use Rattle.std.proofs.Math.Path.{refl}
 use Rattle.std.proofs.Common.{sym, ap, ◌∙◌, subst, inl, inr, arith, get_or-set_other}
 use Rattle.rules.specs.Sizes.{records, Settings}
 use Rattle.rules.specs.Words.{plus}
-use Rattle.rules.specs.Pc
 use Rattle.rules.specs.Pc.{Pc, pc_of, code}
 use Rattle.rules.specs.Rows
 use Rattle.rules.specs.Rows.{idle, go_to}
@@ -25,7 +24,6 @@ use Rattle.view.specs.Rest.{all-passed, all-checked, all-emptied, all_from, all-
 use Rattle.view.specs.Long.{Long}
 use Rattle.view.specs.Turn.{row_in, Look}
 use Rattle.view.specs.Begin.{Admitted}
-use Rattle.records.specs.Hold
 use Rattle.records.specs.Hold.{Hold, hold, has_of, KnowOf, RecordsIn, used}
 use Rattle.records.specs.RecordMoves.{held_one}
 use Rattle.records.specs.RecordStep.{untaken_free}

@@ -10,8 +10,7 @@ use Rattle.std.proofs.Math.Seq.{set-get_or}
 use Rattle.std.proofs.lemmas.Bool.{eqb-false}
 use Rattle.base.specs.Pick.{pick}
 use Rattle.rules.specs.Sizes.{records, nodes, words, threads, Settings}
-use Rattle.rules.specs.Words.{over, is_guarded}
-use Rattle.rules.specs.Pc
+use Rattle.rules.specs.Words.{is_guarded}
 use Rattle.rules.specs.Pc.{Pc, pc_of, code}
 use Rattle.rules.specs.Rows
 use Rattle.rules.specs.Rows.{idle, in_shard, shard_in, stealing, go_to, first}
@@ -19,7 +18,7 @@ use Rattle.rules.specs.Places.{accesses, does, ends, becomes, stores, also_store
 use Rattle.rules.specs.Step.{guards_after}
 use Rattle.rules.specs.Start.{begins, narrow, fresh_at}
 use Rattle.rules.specs.declared.Operation.{Operation}
-use Rattle.rules.specs.declared.Operation.TheVariants.{Reset, Raw, Swap, Retire, Shutdown}
+use Rattle.rules.specs.declared.Operation.TheVariants.{Retire, Shutdown}
 use Rattle.rules.specs.declared.Row.{Row}
 use Rattle.rules.specs.declared.Seen.{Seen}
 use Rattle.rules.specs.declared.Effect.{Effect}
@@ -41,7 +40,6 @@ use Rattle.view.specs.Begin.{Admitted, Owned}
 use Rattle.heap.specs.Hooks.{hooks, slot, alone, slot-slot, loose, hv, to_reclaim, slot_in, get-slot, loose-tight, get-stolen, get-reclaim}
 use Rattle.heap.specs.Stage.{HeapIn, others-none, others-one, shape-eight, stage}
 use Rattle.heap.specs.HeapStep.{Next, grabs, gains, begun_lists}
-use Rattle.records.specs.Hold
 use Rattle.records.specs.Hold.{Hold, hold, has, has_of, off, off_of, KnowOf, RecordsIn}
 use Rattle.records.specs.RecordMoves
 use Rattle.records.specs.RecordStep.{untaken_free}
@@ -414,7 +412,7 @@ module _ (g : Settings) (v : View) (ls : List (List ℕ)) (H : HeapIn g v ls) (R
           same = sym e ∙ (sees l tt refl).0
 
           new : Seg (set next r.rec r.next) r.rec (r.rec ∷ R.all) 0
-          new = rw same (seg_push next head R.all 0 r.rec k.1.0 (let a = R.next_long in let b = k.1.1 in omega arith) fresh R.chain)
+          new = subst (λ (y : ℕ). Seg (set next r.rec y) r.rec (r.rec ∷ R.all) 0) (sym same) (seg_push next head R.all 0 r.rec k.1.0 (let a = R.next_long in let b = k.1.1 in omega arith) fresh R.chain)
 
           more : (L : List ℕ) → Seg (set next r.rec r.next) r.rec L 0 → (n : ℕ) → occ n R.all ≤ occ n L
           more L q n = let f = seg_unique (set next r.rec r.next) r.rec (r.rec ∷ R.all) L new q in let a = ap (occ n) f in omega arith

@@ -17,6 +17,7 @@ hooks r = r.stolen ++ (r.reclaimable ∷ r.unreclaimed ∷ r.lone ∷ [])
 
 true_of : (b : Bool) → T b → b ≡ true
 true_of true t = refl
+true_of false t = elim t [ ]
 
 false_of : (b : Bool) → (T b → ⊥) → b ≡ false
 false_of true f = absurd (f tt)

@@ -5,7 +5,6 @@
 use Rattle.std.specs.Prelude.{ℕ, zero, suc, ◌+◌, ◌*◌, ◌^◌, ◌≤◌, ◌<◌, min, max, ◌≡◌, ◌≢◌, Bool, List, [], ◌∷◌, ◌++◌, map, get_or, set, replicate, eqb, ltb, leb}
 use Rattle.base.specs.Pick.{pick, both}
 use Rattle.rules.specs.Sizes.{records, nodes, threads, words, row32, row64, counter_cells, from_rows, Settings}
-use Rattle.rules.specs.Pc
 use Rattle.rules.specs.Pc.{Pc, code, pc_of}
 use Rattle.rules.specs.Cells.{address}
 use Rattle.rules.specs.Rows.{row_at}

@@ -10,9 +10,7 @@ use Rattle.rules.specs.declared.Row.{Row}
 use Rattle.view.specs.Every.{pc_is, every-start, two}
 use Rattle.view.specs.View.{View, view_of, enters}
 use Rattle.view.specs.Long.{long}
-use Rattle.view.specs.Turn
 use Rattle.view.specs.Turn.{Turn, row-view, step_turn}
-use Rattle.view.specs.Begin
 use Rattle.view.specs.Begin.{Begin, start_begin}
 use Rattle.history.specs.Demand3.{row, Move, act, event, event_by, Event, Run, claims, overwrites, Hazards}
 use Rattle.history.specs.Seen.{hazard-is}

@@ -6,9 +6,8 @@ use Rattle.std.proofs.Math.Decide.{ℕ_discrete}
 use native.Mathlib.Omega.{arith}
 use Rattle.std.proofs.Math.Dec.{eqb}
 use Rattle.std.proofs.lemmas.Bool.{eqb-false}
-use Rattle.rules.specs.Sizes.{nodes, threads, words, Settings, base}
+use Rattle.rules.specs.Sizes.{threads, words, Settings, base}
 use Rattle.rules.specs.Words.{shard_of}
-use Rattle.rules.specs.Pc
 use Rattle.rules.specs.Pc.{Pc, pc_of, code}
 use Rattle.rules.specs.Rows.{idle}
 use Rattle.rules.specs.Places.{accesses, does}
@@ -27,13 +26,10 @@ use Rattle.view.specs.Every.{pc_is, every-start, two}
 use Rattle.view.specs.View.{View, view_of, named, applies, enters}
 use Rattle.view.specs.Given.{Sized, guard_words}
 use Rattle.view.specs.Long.{long}
-use Rattle.view.specs.Turn
 use Rattle.view.specs.Turn.{Turn, Look, row_in, row-view, step_turn}
-use Rattle.view.specs.Begin
 use Rattle.view.specs.Begin.{Begin, Admitted, start_begin}
 use Rattle.heap.specs.Stage.{Allowed, HeapIn}
 use Rattle.heap.specs.HeapStep.{Next, heap-place, heap-ends, heap_begin, begun_lists}
-use Rattle.records.specs.Hold
 use Rattle.records.specs.Hold.{Hold, hold, RecordsIn}
 use Rattle.records.specs.RecordStep.{record_place, record_ends, record_begin}
 use Rattle.shutdown.specs.Zone.{ZoneIn, zone-place, zone-ends, zone_begin, all-shut-rows, shut-free}

@@ -48,7 +48,7 @@ module _ (next : List ℕ) (to : ℕ → ℕ) (same : (n : ℕ) → 0 < n → n 
       (ap (λ (m : List ℕ). x ∷ m) (follow-last k (get_or next x 0) y l e (le_of_suc-le-suc b) (λ n. let q = nd n in omega arith) c.3))
     where
       differ : x ≢ last (y ∷ l)
-      differ q = let o : 1 ≤ occ x (y ∷ l) = rw q (last_in y l) in let w = eq01-same x in let z = nd x in omega arith
+      differ q = let o : 1 ≤ occ x (y ∷ l) = subst (λ (k : ℕ). 1 ≤ occ k (y ∷ l)) (sym q) (last_in y l) in let w = eq01-same x in let z = nd x in omega arith
 
   -- nothing
   follow-null : (e k : ℕ) → follow to e k 0 ≡ []

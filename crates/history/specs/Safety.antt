@@ -7,7 +7,6 @@ use Rattle.rules.specs.declared.Answer.{Answer}
 use Rattle.view.specs.View.{view_of}
 use Rattle.view.specs.Given.{guard_words}
 use Rattle.view.specs.Long.{long}
-use Rattle.view.specs.Turn
 use Rattle.view.specs.Turn.{Turn, row_in, step_turn}
 use Rattle.claims.specs.ClaimStep.{unclaimed, reclaim-waits}
 use Rattle.history.specs.Demand3.{Event, Run, claims, Safe}

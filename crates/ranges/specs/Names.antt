@@ -2,8 +2,7 @@
 use Rattle.std.specs.Prelude.{ℕ, ◌+◌, ◌*◌, ◌≤◌, ◌<◌, ◌≡◌, ◌≢◌, eqb, get_or}
 use Rattle.std.proofs.Common.{◌∙◌, subst, arith, eqb-true}
 use Rattle.std.proofs.lemmas.Bool.{eqb-false}
-use Rattle.rules.specs.Sizes.{records, sources, nodes, threads, Settings}
-use Rattle.rules.specs.Pc
+use Rattle.rules.specs.Sizes.{records, nodes, threads, Settings}
 use Rattle.rules.specs.Pc.{Pc, code}
 use Rattle.rules.specs.declared.Class.{Class}
 use Rattle.rules.specs.declared.Class.TheVariants.{Anything, ARecord, ANode, AnAvailable, AState, AHolder, NoCell}
@@ -19,7 +18,6 @@ use Rattle.view.specs.Ranges.{limit}
 use Rattle.view.specs.Every.{every, two, pick_all, pick_case}
 use Rattle.view.specs.Turn.{beside}
 use Rattle.heap.specs.Stage.{Allowed, Want, Is, ShapeOf, stage}
-use Rattle.records.specs.Hold
 use Rattle.records.specs.Hold.{Hold, KnowOf, hold}
 use Rattle.ranges.specs.Range.{uses, Fit, Ranges}
 

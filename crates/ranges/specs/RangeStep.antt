@@ -5,7 +5,6 @@ use Rattle.std.proofs.Math.Decide.{dec_lt}
 use native.Mathlib.Omega.{arith}
 use Rattle.rules.specs.Sizes.{nodes, threads, Settings}
 use Rattle.rules.specs.Words.{shard_of}
-use Rattle.rules.specs.Pc
 use Rattle.rules.specs.Pc.{Pc, pc_of, code}
 use Rattle.rules.specs.Rows.{idle}
 use Rattle.rules.specs.Places.{accesses, does, ends}
@@ -23,7 +22,6 @@ use Rattle.view.specs.Ranges.{limit}
 use Rattle.view.specs.Turn.{row_in, Look, seen_of, Whole, InRange}
 use Rattle.view.specs.Begin.{Admitted}
 use Rattle.heap.specs.Stage.{Allowed, HeapIn, ShapeOf, stage}
-use Rattle.records.specs.Hold
 use Rattle.records.specs.Hold.{Hold, hold, lock_of, lock, KnowOf, RecordsIn}
 use Rattle.claims.specs.Claim.{ClaimsIn, SafeOf, scan}
 use Rattle.ranges.specs.Range.{Words, Below, below-idle, Ranges, applied, entered}

@@ -5,7 +5,6 @@ use borrow.Author.Tests.{eqb-true, eqb-false, ltb-false, le-ltb}
 use Rattle.base.specs.Pick.{pick}
 use Rattle.rules.specs.Sizes.{records, sources, nodes, threads, Settings}
 use Rattle.rules.specs.Words.{with_lock}
-use Rattle.rules.specs.Pc
 use Rattle.rules.specs.Pc.{Pc, code}
 use Rattle.rules.specs.Rows.{first, shard_in, stealing, keeping, stolen_from}
 use Rattle.rules.specs.Places.{accesses, does, damaged, examine_from, examined, after_free, shut_next}
@@ -21,10 +20,8 @@ use Rattle.view.specs.Ranges.{limit}
 use Rattle.view.specs.Every.{every, two, At, pick_all, pick_case, either}
 use Rattle.view.specs.Rest.{all-passed, all-checked, all-emptied}
 use Rattle.view.specs.Turn.{beside, Sees, Fine}
-use Rattle.heap.specs.Stage
 use Rattle.heap.specs.Stage.{Stage, stage, ShapeOf}
 use Rattle.heap.specs.Onward.{found}
-use Rattle.records.specs.Hold
 use Rattle.records.specs.Hold.{Hold, hold}
 use Rattle.ranges.specs.Range.{uses, Words, Below, below_set, below-idle, Fit}
 use Rattle.ranges.specs.Names.{Knows, Known}

@@ -10,7 +10,6 @@ use Rattle.lists.specs.Occ.{occ, eq01, eq01-same, sum, sum-set, sum-at, sum-two}
 use Rattle.lists.specs.Chain.{Seg, seg_frame, seg_push, seg_head}
 use Rattle.lists.specs.Each.{each_set}
 use Rattle.view.specs.Field.{IsId}
-use Rattle.records.specs.Hold
 use Rattle.records.specs.Hold.{Hold, hold, has_of, has, lock_of, lock, off, used, own, KnowOf, Know, RecordsAt}
 
 module _ (ha head : ℕ) (avn next ho : List ℕ) (rows : List Row) (I : RecordsAt ha head avn next ho rows) (t : ℕ) (ht : t < length rows) where

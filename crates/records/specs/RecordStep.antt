@@ -7,7 +7,6 @@ use Rattle.std.proofs.lemmas.Bool.{eqb-false}
 use Rattle.base.specs.Pick.{pick}
 use Rattle.rules.specs.Sizes.{records, threads, Settings}
 use Rattle.rules.specs.Words.{locked, with_lock}
-use Rattle.rules.specs.Pc
 use Rattle.rules.specs.Pc.{Pc, pc_of, code}
 use Rattle.rules.specs.Rows
 use Rattle.rules.specs.Rows.{idle, go_to}
@@ -30,7 +29,6 @@ use Rattle.view.specs.Every.{every, two, At, pc_is, pick_all, either, thus, then
 use Rattle.view.specs.Rest.{all-passed, all-checked, all-emptied, all_from, all-examined, all-reclaimed, all-shut}
 use Rattle.view.specs.Turn.{row_in, Look, sees}
 use Rattle.view.specs.Begin.{Admitted, Owned}
-use Rattle.records.specs.Hold
 use Rattle.records.specs.Hold.{Hold, hold, has_of, has, lock_of, lock, off_of, off, KnowOf, Know, RecordsAt, RecordsIn}
 use Rattle.records.specs.RecordMoves
 

@@ -1,6 +1,6 @@
 -- Laws of a thread's row in its tables: what was stored is loaded, another thread's row is as it was, and lengths are kept.
-use Rattle.std.specs.Prelude.{ℕ, zero, suc, ◌+◌, ◌*◌, ◌≤◌, ◌<◌, ◌≡◌, refl, ◌≢◌, true, List, [], ◌∷◌, length, get_or, set, drop, ltb}
-use Rattle.std.proofs.Common.{sym, ap, ◌∙◌, length-set, drop_of_length-le, drop-cons, get_or-set_same, get_or-set_other, ltb-true, mul-le-mul_right, suc-mul, arith}
+use Rattle.std.specs.Prelude.{ℕ, zero, suc, ◌+◌, ◌*◌, ◌≤◌, ◌<◌, ◌≡◌, refl, ◌≢◌, true, List, [], ◌∷◌, length, get_or, drop, ltb}
+use Rattle.std.proofs.Common.{sym, ap, ◌∙◌, drop_of_length-le, drop-cons, ltb-true, mul-le-mul_right, suc-mul, arith}
 use Rattle.std.proofs.Math.Decide.{dec_lt}
 use Rattle.rules.specs.Sizes.{records, sources, row32, row64, threads, head_cells, counter_cells, from_sources, from_records, from_rows}
 use Rattle.rules.specs.Rows.{row_at, words32, words64, stored_from, stored32, stored64}

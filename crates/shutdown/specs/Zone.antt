@@ -3,13 +3,12 @@ use Rattle.std.specs.Prelude.{◌≡◌, refl, ◌≢◌, ◌⊎◌, List, [], �
 use Rattle.std.proofs.Common.{sym, ap, subst, inl, inr, arith}
 use Rattle.std.proofs.Math.ListN.{length}
 use Rattle.rules.specs.Sizes.{threads, Settings}
-use Rattle.rules.specs.Pc
 use Rattle.rules.specs.Pc.{Pc, pc_of, code}
 use Rattle.rules.specs.Rows.{idle}
 use Rattle.rules.specs.Places.{accesses, does, ends}
 use Rattle.rules.specs.Start.{begins}
 use Rattle.rules.specs.declared.Operation.{Operation}
-use Rattle.rules.specs.declared.Operation.TheVariants.{Swap, Shutdown}
+use Rattle.rules.specs.declared.Operation.TheVariants.{Shutdown}
 use Rattle.rules.specs.declared.Row.{Row}
 use Rattle.rules.specs.declared.Seen.{Seen}
 use Rattle.rules.specs.declared.Effect.{Effect}
@@ -20,7 +19,6 @@ use Rattle.view.specs.Every.{pc_is, classed, every, every-start, two, never, At,
 use Rattle.view.specs.Rest.{all-passed, all-checked, all-emptied, all_from, all-examined, all-reclaimed, all-shut}
 use Rattle.view.specs.Turn.{row_in, Look}
 use Rattle.view.specs.Begin.{Admitted}
-use Rattle.records.specs.Hold
 use Rattle.records.specs.Hold.{Hold, hold}
 
 pub data Side : Type 0 where

@@ -138,7 +138,7 @@ ticks i n m w = λ j. state (shared (part 0 head_cells i) (at_counters j) (part 
 -- the tables that a step leaves: two cells are written, then the records are cleared or not, then the step is counted
 pub gave : (s : State) (c : Cell) (e : Effect) (d a : Cell) (i₁ n₁ m₁ w₁ i n m w i' w' : List ℕ) → d ≡ pick e.writes c nothing → lent i₁ n₁ m₁ w₁ [] ≡ on_cells (λ x. written x d e.put) s → a ≡ address e.also → lent i n m w [] ≡ on_cells (λ x. written x a e.to) (lent i₁ n₁ m₁ w₁ []) → i' ≡ pick e.closes (stored_from (cut i) from_records zeros) i → w' ≡ slice_set w 4 (plus (slice_index w 4) 1) → lent i' n m w' [] ≡ on_cells (λ x. cells_given x c e) s
 unfolding cells_given
-gave s c e d a i₁ n₁ m₁ w₁ i n m w i' w' pd p1 pa p2 pi pw =
+gave s c e d a j₁ n₁ m₁ w₁ i n m w i' w' pd p1 pa p2 pi pw =
     (λ j. lent (pi j) n m (pw j) [])
     ∙ ticks (pick e.closes (stored_from (cut i) from_records zeros) i) n m w
     ∙ ap (on_cells ticked) (shuts i n m w e.closes ∙ ap (on_cells (λ x. closed x e.closes)) (p2 ∙ λ j. on_cells (λ x. written x (pa j) e.to) ((p1 ∙ ap (λ (k : Cell). on_cells (λ x. written x k e.put) s) pd) j)))

@@ -8,7 +8,7 @@ use Rattle.std.proofs.Math.ListN.{set, get_or-append}
 use Rattle.std.proofs.lemmas.List.{length-replicate}
 use Rattle.std.proofs.Math.Decide.{dec_lt}
 use Rattle.base.specs.Pick.{pick, is-both}
-use Rattle.rules.specs.Sizes.{records, sources, nodes, threads, words, row32, row64}
+use Rattle.rules.specs.Sizes.{records, threads, words, row32, row64}
 use Rattle.rules.specs.Words.{plus}
 use Rattle.rules.specs.Cells.{address, accessed, cell_at, in_range, unread, nothing}
 use Rattle.rules.specs.declared.Class.TheVariants.{Anything}
