@@ -39,6 +39,7 @@ fn started(
 }
 
 // A line that is no start is refused by 28, as a bad frame is.
+#[tactic(auto, unfolding(crate::specs::Call::begun))]
 fn begin(
     ids: &mut [u32],
     next: &mut [u32],
