@@ -21,6 +21,7 @@ pub fn new_pass(r: Row) -> Row
 }
 
 // After Check, whose value is the row's rcount: a retire before its Reclaim, or the end of a pass.
+#[tactic(auto, unfolding(rules::specs::Places::checked))]
 pub fn checked(r: Row) -> Row
     ensures { result ≡ checked r }
 {
@@ -44,6 +45,7 @@ pub fn checked(r: Row) -> Row
 }
 
 // C1 only if there is something to give back.
+#[tactic(auto, unfolding(rules::specs::Places::passed))]
 pub fn passed(r: Row) -> Row
     ensures { result ≡ passed r }
 {
@@ -57,6 +59,7 @@ pub fn passed(r: Row) -> Row
 }
 
 // The kept list, if any, is pushed first.
+#[tactic(auto, unfolding(rules::specs::Places::emptied))]
 pub fn emptied(r: Row) -> Row
     ensures { result ≡ emptied r }
 {
@@ -98,6 +101,7 @@ fn examine_at(r: Row, k: u32) -> Row
 }
 
 // The next shard with a stolen list, from `from` on; after the last, the test for done.
+#[tactic(auto, unfolding(rules::specs::Places::examine_from))]
 pub fn examine_from(r: Row, from: u32) -> Row
     ensures { result ≡ examine_from base from r }
 {
@@ -120,6 +124,7 @@ fn examined_by(r: Row, rest: u32, on: Row) -> Row
 }
 
 // A node was examined, and `rest` is what is left of its list.
+#[tactic(auto, unfolding(rules::specs::Places::examined))]
 pub fn examined(r: Row, rest: u32) -> Row
     ensures { result ≡ examined base rest r }
 {
@@ -145,6 +150,7 @@ pub fn freed(r: Row) -> Row
 }
 
 // A node was reclaimed, and `rest` is what is left of its list.
+#[tactic(auto, unfolding(rules::specs::Places::after_free))]
 pub fn reclaimed(r: Row, rest: u32) -> Row
     ensures { result ≡ after_free base rest r }
 {
@@ -152,6 +158,7 @@ pub fn reclaimed(r: Row, rest: u32) -> Row
 }
 
 // Shutdown's next shard, or its last step.
+#[tactic(auto, unfolding(rules::specs::Places::shut_next))]
 pub fn shut_next(r: Row) -> Row
     ensures { result ≡ shut_next base r }
 {

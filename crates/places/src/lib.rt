@@ -17,6 +17,7 @@ pub fn first(r: Row) -> u32
 }
 
 // The access that a row's step makes.
+#[tactic(auto, unfolding(rules::specs::Places::access_of))]
 pub fn access(r: Row) -> Access
     ensures { result ≡ access_of r }
 {
@@ -74,6 +75,7 @@ pub fn access(r: Row) -> Access
 }
 
 // The cell that it reads beside it.
+#[tactic(auto, unfolding(rules::specs::Places::follow_of))]
 pub fn follow(r: Row, untaken: u32) -> Named
     ensures { result ≡ follow_of r untaken }
 {
@@ -96,6 +98,7 @@ pub fn follow(r: Row, untaken: u32) -> Named
 }
 
 // What a row's step does with what it saw.
+#[tactic(auto, unfolding(rules::specs::Places::effect_of))]
 pub fn effect(r: Row, i: Seen) -> Effect
     ensures { result ≡ effect_of base r i }
 {
