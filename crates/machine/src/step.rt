@@ -54,7 +54,8 @@ fn take(
     let r = rows::load_row(ids, words, t);
     let c = tables::accessed(places::access(r));
     let e = look(ids, next, state, words, guards, t, flag, clock, r);
-    if e.number == 29 {
+    let damaged = e.number == 29;
+    if damaged {
         return Answer {
             number: 29,
             value: 0,
