@@ -8,22 +8,21 @@ import os
 import re
 
 os.chdir(os.path.join(os.path.dirname(os.path.abspath(__file__)), ".."))
-order=[l.split(':')[0] for l in open('crates.txt') if ':' in l and not l.startswith('#')]
+order=[l.split(':')[0].split()[0] for l in open('crates.txt') if ':' in l and not l.startswith('#')]
 rows=[]
 def short(e):
-    for side, mark in (('entry', ''), ('exit', '′')):
-        four = ' '.join(rf'\(now \({t} \.{side}\)\)' for t in ('ids', 'next', 'state', 'words'))
-        for words, name in ((rf'lent {four} \(now \(guards \.{side}\)\)', 'S'), (rf'lent {four} \[\]', 'F'), (rf'sharedIn {four}', 'C')):
+    for side, mark in (('(?:old|now)', ''), ('new', '′')):
+        four = ' '.join(rf'{t}\.{side}' for t in ('ids', 'next', 'state', 'words'))
+        for words, name in ((rf'lent {four} guards\.{side}', 'S'), (rf'lent {four} \[\]', 'F'), (rf'shared_in {four}', 'C')):
             e=re.sub(rf'\({words}\)|{words}',name+mark,e)
-    e=re.sub(r'now \((\w+) \.entry\)',r'\1',e); e=re.sub(r'now \((\w+) \.exit\)',r'\1′',e)
+    e=re.sub(r'\b(\w+)\.(?:old|now)\b',r'\1',e); e=re.sub(r'\b(\w+)\.new\b',r'\1′',e)
     e=re.sub(r'\((\w+′?)\)',r'\1',e)
-    e=e.replace('Rattle·','')
     return e.strip()
 # Whether a promise leaves one answer and one content: not if it is no equation but for bounds, or is one of a field, of the
 # front of a buffer, or of what `standing` counts of what is kept.
 def one(p):
     said=[c.strip('()') for c in p.split(' × ') if '≤' not in c]
-    open_=[c for c in said if '≡' not in c or re.match(r'take |r \.',c) or re.search(r'\bstanding\b',c)]
+    open_=[c for c in said if '≡' not in c or re.match(r'take |result\.',c) or re.search(r'\bstanding\b',c)]
     return 'yes' if said and not open_ else 'part' if p else 'none'
 for c in order:
     lib=f'crates/{c}/src/lib.rt'
@@ -34,12 +33,11 @@ for c in order:
         if m=='main': continue
         if m!='lib' and not re.search(r'^pub mod '+m+';',libs,flags=re.M): continue
         s=open(f).read()
-        for mm in re.finditer(r'^pub (?:extern "C" )?fn (\w+)\(([^{}]*?)\)(?: -> ([^\n{]*?))?\s*((?:\n    (?:requires|ensures)[^\n]*)*)\s*\{',s,flags=re.M):
+        for mm in re.finditer(r'^pub (?:extern "C" )?fn (\w+)(?:<[^>]*>)?\(([^{}]*?)\)(?: -> ([^\n{]*?))?\s*((?:\n    (?:requires|ensures)[^\n]*)*)\s*\{',s,flags=re.M):
             name,params,ret,cl=mm.groups()
             req='requires' in cl
-            ens=re.findall(r'ensures(?: \w+)? \{ λ (\S+) ?\. ⌜ (.*?) ⌝ \}',cl)
-            if not ens: ens=re.findall(r'ensures(?: \w+)? \{ (?:λ (\S+)\. )?⌜ (.*?) ⌝ \}',cl)
-            p=' and '.join(short(e[1]) for e in ens)
+            ens=re.findall(r'ensures(?: \w+)? \{ (.*) \}$',cl,flags=re.M)
+            p=' and '.join(short(e) for e in ens)
             path=f"{c}::{'' if m=='lib' else m+'::'}{name}"
             rows.append((path,f"crates/{c}/src/{m}.rt",p,'no' if req else one(p)))
 out='| function | promise | one |\n|---|---|---|\n'+'\n'.join(f"| `{a}` | {('`'+p+'`') if p else '-'} | {o} |" for a,f,p,o in rows)+'\n'
