@@ -191,8 +191,11 @@ rm "$work/copy/crates/replay/src/changed"
 run env RATTLE_HOME="$work/kit" "$work/copy/kevrespil" replay "$work/example"
 expect "a file that went is a change" 0 err "proving and building replay, "
 touch "$work/copy/crates.txt"
-run env RATTLE_HOME="$work/kit" "$work/copy/kevrespil" replay "$work/example"
+cd "$work" || exit 2
+run env RATTLE_HOME=kit copy/kevrespil replay example
+cd "$root" || exit 2
 expect "another crates.txt is a change" 0 err "proving and building replay, "
+same "a kit's folder that is named from here" "$work/answers"
 touch "$work/copy/crates/changed"
 run env REFUSE=1 RATTLE_HOME="$work/kit" "$work/copy/kevrespil" replay "$work/example"
 expect "a proof that fails" 1 err "replay could not be proved and built"

@@ -11,7 +11,8 @@ find_kit() {
         return 1
     fi
     if [ -n "${RATTLE_HOME:-}" ]; then
-        rt=$RATTLE_HOME/bin/rt
+        rt=$(cd "$RATTLE_HOME" 2>/dev/null && pwd -P) || rt=$RATTLE_HOME
+        rt=$rt/bin/rt
         if [ ! -x "$rt" ]; then
             echo "$name: RATTLE_HOME is $RATTLE_HOME, and there is no Rattle kit there" >&2
             return 1
