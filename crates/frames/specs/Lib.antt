@@ -4,5 +4,4 @@ pub mod HexLaws
 pub mod LoopLaws
 pub mod LineLaws
 pub mod TextLaws
-pub mod RoundTrip
 pub mod Examples

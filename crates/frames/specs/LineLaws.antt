@@ -1,14 +1,14 @@
 -- How the code that reads and writes a line meets the definitions.
-use Rattle.std.specs.Prelude.{ℕ, ◌+◌, ◌≤◌, ◌<◌, ◌^◌, ◌≡◌, refl, Bool, true, false, List, [], ◌++◌, length, get_or, take, drop, replicate}
+use Rattle.std.specs.Prelude.{ℕ, ◌+◌, ◌≤◌, ◌≡◌, refl, Bool, true, false, List, [], ◌++◌, length, get_or, take, drop, replicate}
 use Rattle.std.proofs.Math.Path.{sym}
-use Rattle.std.proofs.Common.{ap, ◌∙◌, append_assoc, length-append, length-take, length-drop, take_at, drop_at, ne_eqb, arith}
+use Rattle.std.proofs.Common.{ap, ◌∙◌, append_assoc, length-append, take_at, drop_at, ne_eqb, arith}
 use Rattle.std.proofs.lemmas.List.{length-replicate, replicate-append-replicate}
 use Rattle.std.proofs.Math.ListN.{get_or-eq_default}
 use Rattle.std.proofs.lemmas.List.Edits.{sets, sets-eq}
 use Rattle.rules.specs.declared.Operation.{Operation}
-use Rattle.frames.specs.Hex.{all_digits, field, digits_of}
-use Rattle.frames.specs.HexLaws.{digits_length, take_digits, drop_digits, number_fits}
-use Rattle.frames.specs.Frames.{fields_in, kinds, framed, line_of, start_fields, fields_of, text_of, Fit, answer_of}
+use Rattle.frames.specs.Hex.{all_digits, digits_of}
+use Rattle.frames.specs.HexLaws.{digits_length}
+use Rattle.frames.specs.Frames.{fields_in, kinds, framed, line_of, start_fields, fields_of, text_of, answer_of}
 use Rattle.frames.specs.declared.Fields.{Fields}
 use Rattle.frames.specs.declared.Line.{Line}
 use Rattle.frames.specs.declared.Line.TheVariants.{Bad}
@@ -41,22 +41,6 @@ module _ (l : List ℕ) (d : Bool) (e : d ≡ all_digits l) (n : length l ≡ 28
 pub line_other : (l : List ℕ) → (length l ≡ 28 → ⊥) → Bad ≡ line_of l
 unfolding line_of
 line_other l h = sym (rw (ne_eqb (length l) 28))
-
--- ---- what is read fits
-field_fits : (l : List ℕ) (at n : ℕ) → at + n ≤ length l → all_digits l ≡ true → field at n l < 16 ^ n
-field_fits l at n q h =
-    let e : length (take n (drop at l)) ≡ n = simp (length-take, length-drop) (omega arith) in
-    rw e at (number_fits (take n (drop at l)) (take_digits n (drop at l) (drop_digits at l h)))
-
-pub fields_fit : (f : Fields) (l : List ℕ) → f ≡ fields_in l → length l ≡ 28 → all_digits l ≡ true → Fit f
-unfolding fields_in
-fields_fit f l e n h = rw e (record {
-  kind_fits = field_fits l 0 2 (omega arith) h;
-  thread-fits = field_fits l 2 2 (omega arith) h;
-  a-fits = field_fits l 4 4 (omega arith) h;
-  b-fits = field_fits l 8 4 (omega arith) h;
-  c-fits = field_fits l 12 16 (omega arith) h;
-})
 
 -- ---- a line that is written from its start: p stands there, at bytes long, and m newlines after it
 record Laid (l p : List ℕ) (at m : ℕ) : Type 0 where

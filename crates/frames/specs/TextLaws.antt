@@ -1,13 +1,13 @@
 -- A line, its fields and their text: each gives back the one before.
-use Rattle.std.specs.Prelude.{ℕ, zero, suc, ◌+◌, ◌≤◌, ◌<◌, ◌≡◌, refl, ◌≢◌, Bool, true, false, List, [], ◌∷◌, ◌++◌, length, get_or, take, drop, eqb, ltb}
-use Rattle.std.proofs.Common.{sym, length-take, length-drop, take_at, take-add, take_all, lit≤, lt-ltb, le-ltb, eq-eqb, ne_eqb, zero-add, add-zero, arith}
+use Rattle.std.specs.Prelude.{ℕ, zero, suc, ◌+◌, ◌<◌, ◌≡◌, refl, ◌≢◌, Bool, true, false, List, [], ◌∷◌, ◌++◌, length, get_or, take, eqb, ltb}
+use Rattle.std.proofs.Common.{sym, lt-ltb, le-ltb, eq-eqb, ne_eqb, zero-add, add-zero, arith}
 use Rattle.std.proofs.Math.Decide.{dec_lt, ℕ_discrete}
 use Rattle.base.specs.Pick.{pick}
 use Rattle.rules.specs.declared.Operation.{Operation}
 use Rattle.rules.specs.declared.Operation.TheVariants.{Acquire, Release, Protect, Try, TryProtect, Reset, Raw, Swap, Retire, Eager, Cleanup, Shutdown}
-use Rattle.frames.specs.Hex.{all_digits, field, digits_of}
-use Rattle.frames.specs.HexLaws.{number_digits, digits_number, all_append, all_of_digits, take_digits, drop_digits}
-use Rattle.frames.specs.Frames.{fields, fields_in, unused, kinds, framed, start_fields, fields_of, text_of, Fit}
+use Rattle.frames.specs.Hex.{all_digits, digits_of}
+use Rattle.frames.specs.HexLaws.{all_append, all_of_digits}
+use Rattle.frames.specs.Frames.{fields, unused, kinds, framed, start_fields, fields_of, text_of}
 use Rattle.frames.specs.declared.Fields.{Fields}
 use Rattle.frames.specs.declared.Line.{Line}
 use Rattle.frames.specs.declared.Line.TheVariants.{Step, Start, Bad}
@@ -36,10 +36,6 @@ framed-fields (Start t o) = framed-start t o
 framed-fields Bad = refl
 
 -- ---- fields and their text
-pub fields-text : (f : Fields) → Fit f → fields_in (take 28 (text_of f)) ≡ f
-unfolding fields_in text_of digits_of
-fields-text f h = λ i. fields (number_digits 2 f.kind h.kind_fits i) (number_digits 2 f.thread h.thread-fits i) (number_digits 4 f.a h.a-fits i) (number_digits 4 f.b h.b-fits i) (number_digits 16 f.c h.c-fits i)
-
 pub text_digits : (f : Fields) → all_digits (take 28 (text_of f)) ≡ true
 unfolding text_of digits_of
 text_digits f = all_are_digits
@@ -50,19 +46,6 @@ text_digits f = all_are_digits
 pub text-length : (f : Fields) → length (take 28 (text_of f)) ≡ 28
 unfolding text_of digits_of
 text-length f = refl
-
--- ---- the text of fields that are read
-part-text : (l : List ℕ) (at n : ℕ) → at + n ≤ length l → all_digits l ≡ true → digits_of n (field at n l) ≡ take n (drop at l)
-part-text l at n q h =
-    let e : length (take n (drop at l)) ≡ n = simp (length-take, length-drop) (omega arith) in
-    rw e at (digits_number (take n (drop at l)) (take_digits n (drop at l) (drop_digits at l h)))
-
-pub text-fields : (l : List ℕ) → length l ≡ 28 → all_digits l ≡ true → take 28 (text_of (fields_in l)) ≡ l
-unfolding fields_in text_of
-text-fields l n h =
-    let d : (at k : ℕ) → at + k ≤ 28 → digits_of k (field at k l) ≡ take k (drop at l) = λ at k q. part-text l at k (omega arith) h in
-    let e : take 2 (drop 0 l) ++ take 2 (drop 2 l) ++ take 4 (drop 4 l) ++ take 4 (drop 8 l) ++ take 16 (drop 12 l) ≡ l = rw (sym (take-add 2 2 l), sym (take-add 4 4 l), sym (take-add 8 4 l), sym (take-add 12 16 l)) (take_all 28 l (omega arith)) in
-    rw (d 0 2 (lit≤ tt), d 2 2 (lit≤ tt), d 4 4 (lit≤ tt), d 8 4 (lit≤ tt), d 12 16 (lit≤ tt), e) (take_at l (10 ∷ []) 28 n)
 
 -- ---- the fields of a line that is not bad
 infixr 60 ◌⨾◌

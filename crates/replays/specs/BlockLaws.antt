@@ -1,12 +1,11 @@
 -- How the loop over the lines of a block meets the definition: what is left to run, at each turn.
-use Rattle.std.specs.Prelude.{◌≡◌, ℕ, zero, suc, ◌+◌, ◌-◌, ◌<◌, ◌≤◌, Bool, true, false, List, [], ◌∷◌, ◌++◌, length, take, drop, ◌==◌, ◌≢◌, nat_lt, slice_index, refl}
-use Rattle.std.proofs.Common.{zero-le, sym, ◌∙◌, append_assoc, append-nil, drop_of_length-le, take_all, drop-cons, drop-drop, eqb-true, eq-eqb, ne_eqb, lt-ltb, le-ltb, ltb-false, add-one, add-zero, zero-add}
+use Rattle.std.specs.Prelude.{◌≡◌, ℕ, suc, ◌+◌, ◌-◌, ◌<◌, ◌≤◌, Bool, true, false, List, [], ◌∷◌, ◌++◌, length, take, drop, ◌==◌, ◌≢◌, nat_lt, slice_index, refl}
+use Rattle.std.proofs.Common.{zero-le, sym, ◌∙◌, append_assoc, append-nil, drop_of_length-le, take_all, drop-cons, drop-drop, eqb-true, ne_eqb, lt-ltb, le-ltb, ltb-false, add-one, add-zero, zero-add}
 use Rattle.std.proofs.Math.Path.{ap}
 use Rattle.std.proofs.Math.ListN.{length-append, length-take}
 use Rattle.std.proofs.Math.Seq.{sets, length-sets}
 use Rattle.std.proofs.lemmas.Bool.{eqb-false}
 use native.Mathlib.Omega.{arith}
-use Rattle.base.specs.Pick.{pick}
 use Rattle.rules.specs.Sizes.{Settings}
 use Rattle.rules.specs.Words.{plus}
 use Rattle.rules.specs.Step.{State}

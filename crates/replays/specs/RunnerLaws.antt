@@ -1,7 +1,7 @@
 -- What a reader may take from the runner: a run does not depend on where its blocks are cut, and the answers to an input
 -- are the answers to its lines.
-use Rattle.std.specs.Prelude.{◌≡◌, ℕ, zero, suc, ◌+◌, ◌-◌, ◌*◌, ◌<◌, ◌≤◌, Bool, true, false, List, [], ◌∷◌, ◌++◌, length, take, drop, ◌==◌, nat_eq, nat_le, nat_lt, refl}
-use Rattle.std.proofs.Common.{sym, ap, ◌∙◌, append_assoc, append-nil, length-append, length-take, take_all, length-take-le, eqb-true, ne_eqb, le-ltb, leb-true, leb-false, arith}
+use Rattle.std.specs.Prelude.{◌≡◌, ℕ, ◌-◌, ◌*◌, ◌<◌, ◌≤◌, Bool, true, false, List, [], ◌∷◌, ◌++◌, length, take, drop, ◌==◌, nat_eq, nat_le, nat_lt, refl}
+use Rattle.std.proofs.Common.{sym, ap, ◌∙◌, append_assoc, append-nil, take_all, length-take-le, eqb-true, ne_eqb, le-ltb, leb-true, leb-false, arith}
 use Rattle.base.specs.Pick.{pick}
 use Rattle.rules.specs.Sizes.{Settings}
 use Rattle.rules.specs.Words.{plus}
@@ -10,8 +10,8 @@ use Rattle.frames.specs.Frames.{line_of}
 use Rattle.frames.specs.declared.Line.{Line}
 use Rattle.frames.specs.LineLaws.{line_other}
 use Rattle.texts.specs.LineLaws.{take-front}
-use Rattle.replays.specs.Replay.{Ran, ran, written, reply_to, ran_line}
-use Rattle.replays.specs.Runner.{Stand, stand, keep, Run, run, ends, run_byte, behind, run_bytes, fitting, run_block, run_end, followed, ended, run_all, Cut, cut, lines_after, lines_of, joined, run_lines}
+use Rattle.replays.specs.Replay.{written, reply_to, ran_line}
+use Rattle.replays.specs.Runner.{Stand, stand, run, run_byte, behind, run_bytes, fitting, run_block, followed, ended, run_all, lines_after, lines_of, joined, run_lines}
 
 -- ---- blocks: the bytes of two are run as one after the other
 pub cut_anywhere : (g : Settings) (p : Stand) (a b : List ℕ) → run_bytes g p (a ++ b) ≡ behind (run_bytes g p a).text (run_bytes g (run_bytes g p a).then b)

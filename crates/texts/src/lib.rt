@@ -131,7 +131,8 @@ pub fn gather(line: &mut [u8], len: usize, input: &[u8], at: usize) -> Gathered
     let mut i = at;
     while i < input.len() {
         let b = input[i];
-        if b == b'\n' {
+        let is_newline = b == b'\n';
+        if is_newline {
             return Gathered { len: n, at: i };
         }
         n = keep(line, n, b);

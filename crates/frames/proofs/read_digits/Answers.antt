@@ -1,4 +1,4 @@
-use Rattle.frames.specs.LineLaws.{fields_fit}
+use Rattle.frames.proofs.FieldLaws.{fields_fit}
 use Rattle.frames.proofs.read_digits.Goals as goal
 
 pub framed-requires : goal.framed-requires

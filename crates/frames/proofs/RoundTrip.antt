@@ -2,11 +2,12 @@
 use Rattle.std.specs.Prelude.{ℕ, ◌%◌, ◌^◌, ◌≡◌, ◌≢◌, true, List, length, take, eqb}
 use Rattle.std.proofs.Common.{eqb-true}
 use Rattle.frames.specs.Hex.{all_digits, field, digits_of}
-use Rattle.frames.specs.HexLaws.{number_cut}
+use Rattle.frames.proofs.NumberLaws.{number_cut}
 use Rattle.frames.specs.Frames.{fields_in, framed, line_of, fields_of, frame_of, Fit, answer_of}
 use Rattle.frames.specs.declared.Line.{Line}
 use Rattle.frames.specs.declared.Line.TheVariants.{Bad}
-use Rattle.frames.specs.TextLaws.{framed-fields, fields-text, text_digits, text-length, text-fields, same-framed, picked}
+use Rattle.frames.specs.TextLaws.{framed-fields, text_digits, text-length, same-framed, picked}
+use Rattle.frames.proofs.FieldLaws.{fields-text, text-fields}
 
 -- what is written for a line whose numbers fit their bytes is read back as that line
 pub frame_read : (l : Line) → Fit (fields_of l) → line_of (take 28 (frame_of l)) ≡ l

@@ -1,0 +1,3 @@
+pub mod NumberLaws
+pub mod FieldLaws
+pub mod RoundTrip
