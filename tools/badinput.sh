@@ -1,12 +1,16 @@
 #!/usr/bin/env bash
 # Bad input for `replay`: truncated, binary, huge and empty inputs, a closed output, a read error. No crash, no hang, and
-# nothing written that is not an answer. Needs target/bin/replay (`rt check replay`). REPLAY names another command.
+# nothing written that is not an answer. The front door builds the program where it must. REPLAY names another command.
 set -u
 cd "$(dirname "$0")/.."
 name=tools/badinput.sh
 . tools/kit.sh
 find_kit || exit 2
-replay=${REPLAY:-$(program_words) target/bin/replay}
+replay=${REPLAY:-}
+if [ -z "$replay" ]; then
+    ./kevrespil replay /dev/null || exit 2
+    replay=$(program_of replay)
+fi
 work=$(mktemp -d)
 trap 'rm -rf "$work"' EXIT
 passed=0

@@ -1,6 +1,7 @@
 #!/usr/bin/env bash
 # Lines a second of `replay` on a replay of a million lines, beside a plain copy of the same bytes. A benchmark, no test.
-# Needs target/bin/replay (`rt check replay`) and the oracle (`cd oracle && cargo build --release`), which makes the replay.
+# Needs crates/replay/out/replay (any `./kevrespil replay FILE` builds it) and the oracle (`cd oracle && cargo build
+# --release`), which makes the replay.
 set -eu
 cd "$(dirname "$0")/.."
 lines=${1:-1000000}
@@ -23,11 +24,8 @@ best() {
     done
     echo "$least"
 }
-case $(uname -m) in
-    x86_64) echo "on this machine, five runs, the best:" ;;
-    *) echo "under the kit's emulator, so the figures are its own:" ;;
-esac
-took=$(best target/bin/replay)
+echo "on this machine, five runs, the best:"
+took=$(best crates/replay/out/replay)
 echo "replay: $lines lines in $((took / 1000)) us, $((lines * 1000000000 / took)) lines a second"
 took=$(best dd bs=16384 status=none)
 echo "copy:   the same bytes in $((took / 1000)) us"

@@ -1,5 +1,5 @@
 #!/usr/bin/env python3
-"""Writes crates/cases/stdin and crates/cases/stdout: the cases that `rt check cases` runs.
+"""Writes crates/cases/stdin and crates/cases/stdout: the cases that `rt ci` runs.
 
     cd oracle && cargo build --release && cd ..      # once; docs/ORACLE.md says what it needs
     python3 tools/cases.py                           # ORACLE=path names another build of the oracle

@@ -1,7 +1,7 @@
 #!/usr/bin/env python3
 """Writes the replays of days/: short stories, told in comments between their lines.
 
-    rt check replay && python3 tools/days.py        # REPLAY=command runs the program another way, as on Arm
+    ./kevrespil replay /dev/null && python3 tools/days.py        # the first builds the program; REPLAY names another
 
 The stories are written here as operations. What the machine makes of them is not known here: the proved `replay` program
 is asked line by line, and an operation is over when its answer says so. The files are committed; tools/cases.py makes
@@ -13,7 +13,7 @@ import subprocess
 import textwrap
 
 ROOT = os.path.join(os.path.dirname(os.path.abspath(__file__)), '..')
-REPLAY = shlex.split(os.environ.get('REPLAY', os.path.join(ROOT, 'target', 'bin', 'replay')))
+REPLAY = shlex.split(os.environ.get('REPLAY', os.path.join(ROOT, 'crates', 'replay', 'out', 'replay')))
 
 STEP, ACQUIRE, RELEASE, PROTECT, TRY, TRY_PROTECT, RESET, RAW, SWAP, RETIRE, EAGER, CLEANUP, SHUTDOWN = range(13)
 STEPPED, STARTED, DONE, RETRY, RECLAIMED = range(5)

@@ -127,8 +127,12 @@ refused "no kit" "the Rattle kit is missing" env -u RATTLE_HOME PATH="$tools" sh
 refused "a kit's folder that is none" "there is no Rattle kit there" env RATTLE_HOME="$work" ./kevrespil replay "$work/example"
 mkdir -p "$work/other/bin" && printf '#!/bin/sh\n' >"$work/other/bin/rt" && chmod +x "$work/other/bin/rt"
 refused "another program called rt" "is not the Rattle kit's" env RATTLE_HOME="$work/other" ./kevrespil replay "$work/example"
-touch "$work/other/KIT-ID"
-refused "a kit for other machines" "has nothing for this machine" env RATTLE_HOME="$work/other" ./kevrespil replay "$work/example"
+mkdir "$work/arm" && printf '#!/bin/sh\necho aarch64\n' >"$work/arm/uname" && chmod +x "$work/arm/uname"
+for command in replay read picture test; do
+    file=$work/example
+    [ "$command" != test ] || file=''
+    refused "$command on another machine" "the Rattle kit is for x86-64, and this machine is aarch64" env PATH="$work/arm:$PATH" ./kevrespil "$command" ${file:+"$file"}
+done
 
 # ---- permissions, as a user who is not root
 as=''
@@ -137,32 +141,34 @@ if [ "$(id -u)" -eq 0 ]; then
     $as true 2>/dev/null || as=none
 fi
 # A copy of the door, in a folder that has nothing built.
-mkdir -p "$work/copy/tools" "$work/copy/crates" "$work/copy/target"
+mkdir -p "$work/copy/tools" "$work/copy/crates/replay/src" "$work/copy/crates/read"
 cp kevrespil "$work/copy/" && cp tools/kit.sh "$work/copy/tools/" && cp crates.txt "$work/copy/"
 cp "$work/example" "$work/secret" && chmod 000 "$work/secret"
-chmod 555 "$work/copy/target" "$work/copy"
+chmod 555 "$work/copy/crates/replay" "$work/copy/crates/read"
 if [ "$as" = none ] || ! $as test -r "$root/kevrespil" || ! $as test -r "$kit/KIT-ID"; then
     echo "permissions skipped: they need a user other than root who can read $root and $kit"
 else
     # shellcheck disable=SC2086
     refused "a file that may not be read" "permission is missing" $as "$work/copy/kevrespil" replay "$work/secret"
     # shellcheck disable=SC2086
-    refused "a folder that may not be written" "target cannot be written" $as "$work/copy/kevrespil" replay "$work/example"
+    refused "a folder that may not be written" "/out cannot be written" $as "$work/copy/kevrespil" replay "$work/example"
 fi
-chmod 755 "$work/copy" "$work/copy/target"
+chmod 755 "$work/copy/crates/replay" "$work/copy/crates/read"
 
 # ---- building, with a kit whose rt only pretends
-mkdir -p "$work/kit/bin" "$work/kit/on" && touch "$work/kit/KIT-ID" && ln -s "$kit/on/$machine" "$work/kit/on/$machine"
+mkdir -p "$work/kit/bin" && touch "$work/kit/KIT-ID"
 cat >"$work/kit/bin/rt" <<END
 #!/bin/sh
 [ "\$1" != ci ] || { echo "5 passed, 0 failed"; exit; }
-mkdir -p target/log target/bin
-echo failed >target/log/places.res
+[ "\$1" = run ] || exit 2
+mkdir -p out ../places/out
+echo "rt: chose --jobs 2 for places" >&2
 sleep "\${PRETEND:-3}" &
 wait
 [ -z "\${REFUSE:-}" ] || { echo "rt: places NOT PROVED"; exit 1; }
-echo proved >target/log/places.res
-cp "$root/target/bin/\$2" target/bin/
+[ -z "\${CHANGE:-}" ] || touch src/changed
+one=\$(basename "\$PWD")
+cp "$root/crates/\$one/out/\$one" out/
 END
 chmod +x "$work/kit/bin/rt"
 run env RATTLE_HOME="$work/kit" "$work/copy/kevrespil" replay "$work/example"
@@ -171,14 +177,29 @@ expect "what it is doing" 0 err "proving and building replay, "
 expect "which crate it is at" 0 err "s so far: places"
 run env RATTLE_HOME="$work/kit" "$work/copy/kevrespil" replay "$work/example"
 if [ "$status" -eq 0 ] && [ ! -s "$work/err" ]; then pass; else fail "what is built is not built again"; fi
+# What rt wrote, of this crate and of others, is newer than the sources that it read, and is none of them.
+touch "$work/copy/crates/places/out/replay" "$work/copy/crates/places" "$work/copy/crates/replay/out"
+run env RATTLE_HOME="$work/kit" "$work/copy/kevrespil" replay "$work/example"
+if [ "$status" -eq 0 ] && [ ! -s "$work/err" ]; then pass; else fail "what rt writes is no change"; fi
 sleep 1
 touch "$work/copy/crates/changed"
-run env RATTLE_HOME="$work/kit" "$work/copy/kevrespil" replay "$work/example"
+run env CHANGE=1 RATTLE_HOME="$work/kit" "$work/copy/kevrespil" replay "$work/example"
 expect "what has changed is built again" 0 err "proving and building replay, "
+run env RATTLE_HOME="$work/kit" "$work/copy/kevrespil" replay "$work/example"
+expect "what has changed while it was built is built again" 0 err "proving and building replay, "
+rm "$work/copy/crates/replay/src/changed"
+run env RATTLE_HOME="$work/kit" "$work/copy/kevrespil" replay "$work/example"
+expect "a file that went is a change" 0 err "proving and building replay, "
+touch "$work/copy/crates.txt"
+cd "$work" || exit 2
+run env RATTLE_HOME=kit copy/kevrespil replay example
+cd "$root" || exit 2
+expect "another crates.txt is a change" 0 err "proving and building replay, "
+same "a kit's folder that is named from here" "$work/answers"
 touch "$work/copy/crates/changed"
 run env REFUSE=1 RATTLE_HOME="$work/kit" "$work/copy/kevrespil" replay "$work/example"
 expect "a proof that fails" 1 err "replay could not be proved and built"
-rm -f "$work/copy/target/kevrespil-replay"
+rm -f "$work/copy/crates/replay/out/kevrespil-mark"
 env PRETEND=77 RATTLE_HOME="$work/kit" "$work/copy/kevrespil" replay "$work/example" >"$work/out" 2>"$work/err" </dev/null &
 door=$!
 sleep 3
@@ -192,18 +213,6 @@ sleep 1
 after=$(ps -A -o args= | grep -c '^sleep 77')
 if [ "$status" -eq 143 ] && [ "$before" -eq 1 ] && [ "$after" -eq 0 ]; then pass; else fail "a build that is stopped: status $status, $before helpers before and $after after"; fi
 
-# ---- on Arm, where every other test has run under the kit's emulator; elsewhere one that only pretends
-if [ "$machine" != aarch64 ]; then
-    arm=$work/kit/on/aarch64/toolchain
-    mkdir -p "$arm/bin" "$work/arm" && ln -s "$kit/on/$machine/toolchain/lib" "$arm/lib"
-    printf '#!/bin/sh\necho emulated >>"%s"\nexec "$@"\n' "$work/emulated" >"$arm/bin/qemu-x86_64"
-    printf '#!/bin/sh\necho aarch64\n' >"$work/arm/uname"
-    chmod +x "$arm/bin/qemu-x86_64" "$work/arm/uname"
-    run env PATH="$work/arm:$PATH" RATTLE_HOME="$work/kit" "$work/copy/kevrespil" replay "$work/example"
-    same "replay on Arm" "$work/answers"
-    if [ "$(cat "$work/emulated")" = emulated ]; then pass; else fail "the emulator is used on Arm"; fi
-fi
-
 # ---- test, with a gate and scripts that only pretend
 mkdir "$work/copy/.ci" && cp .ci/run "$work/copy/.ci/"
 for one in badinput days library picture frontdoor; do
@@ -212,7 +221,7 @@ for one in badinput days library picture frontdoor; do
 done
 run env RATTLE_HOME="$work/kit" "$work/copy/kevrespil" test
 if [ "$status" -eq 0 ] && [ "$(tail -n 1 "$work/out")" = "15 passed, 0 failed" ]; then pass; else fail "test: status $status"; fi
-expect "what the tests are at" 0 err "the gate, everything from nothing"
+expect "what the tests are at" 0 err "the gate, every proof and every wrong machine"
 printf '#!/bin/sh\necho "days are wrong"; echo "1 passed, 1 failed"; exit 1\n' >"$work/copy/tools/days.sh"
 printf '#!/bin/sh\necho "there is no compiler"; exit 2\n' >"$work/copy/tools/library.sh"
 run env RATTLE_HOME="$work/kit" "$work/copy/kevrespil" test

@@ -1,13 +1,18 @@
-# Where the Rattle kit is, and how a program that it built is run on this machine. Read in by ./kevrespil and by the
-# scripts of this folder; it is no command of its own.
+# Where the Rattle kit is, and where the programs are that it built. Read in by ./kevrespil and by the scripts of this
+# folder; it is no command of its own.
 # shellcheck shell=sh disable=SC2154
 
-# Sets `rt` (the kit's command), `kit` (its folder) and `machine`, and puts rt on the PATH. Says what is missing, and fails.
+# Sets `rt` (the kit's command) and `kit` (its folder), and puts rt on the PATH. Says what is missing, and fails.
 # The caller's name is in `name`.
 find_kit() {
     machine=$(uname -m)
+    if [ "$machine" != x86_64 ]; then
+        echo "$name: the Rattle kit is for x86-64, and this machine is $machine" >&2
+        return 1
+    fi
     if [ -n "${RATTLE_HOME:-}" ]; then
-        rt=$RATTLE_HOME/bin/rt
+        rt=$(cd "$RATTLE_HOME" 2>/dev/null && pwd -P) || rt=$RATTLE_HOME
+        rt=$rt/bin/rt
         if [ ! -x "$rt" ]; then
             echo "$name: RATTLE_HOME is $RATTLE_HOME, and there is no Rattle kit there" >&2
             return 1
@@ -29,23 +34,9 @@ find_kit() {
         return 1
     fi
     PATH=$kit/bin:$PATH
-    if [ ! -d "$kit/on/$machine" ]; then
-        echo "$name: the Rattle kit at $kit has nothing for this machine, $machine" >&2
-        return 1
-    fi
 }
 
-# Runs an x86-64 program with the kit's loader and C library; on any other machine under the kit's emulator.
-run_program() { # PROGRAM [WORDS...]
-    built=$kit/on/$machine/toolchain
-    set -- "$built/lib/ld-linux-x86-64.so.2" --library-path "$built/lib" "$@"
-    [ ! -x "$built/bin/qemu-x86_64" ] || set -- "$built/bin/qemu-x86_64" "$@"
-    "$@"
-}
-
-# The words that run_program puts before a program, for a command that has to be one.
-program_words() {
-    built=$kit/on/$machine/toolchain
-    [ ! -x "$built/bin/qemu-x86_64" ] || printf '%s ' "$built/bin/qemu-x86_64"
-    printf '%s' "$built/lib/ld-linux-x86-64.so.2 --library-path $built/lib"
+# Where rt builds a program, from the top of the repository. Any x86-64 Linux with a C library runs it.
+program_of() { # NAME
+    printf 'crates/%s/out/%s' "$1" "$1"
 }

@@ -1,13 +1,11 @@
-//! The tests of the library, as one program with a `main` of C's (Cargo.toml says why). The last line is
-//! 'N passed, M failed', and the status is 0 if M is.
-#![no_main]
+//! The tests of the library, as one program. The last line is 'N passed, M failed', and the status is 0 if M is.
 
 mod bench;
 mod cases;
 mod names;
 
-use std::ffi::{c_char, c_int};
 use std::panic::catch_unwind;
+use std::process::ExitCode;
 
 macro_rules! tests {
     ($($module:ident: $($name:ident)*;)*) => {
@@ -34,8 +32,7 @@ tests! {
         every_refusal_that_a_domain_can_give;
 }
 
-#[no_mangle]
-pub extern "C" fn main(_count: c_int, _words: *const *const c_char) -> c_int {
+fn main() -> ExitCode {
     let mut failed = 0;
     for (name, test) in TESTS {
         if catch_unwind(test).is_err() {
@@ -44,5 +41,5 @@ pub extern "C" fn main(_count: c_int, _words: *const *const c_char) -> c_int {
         }
     }
     println!("{} passed, {failed} failed", TESTS.len() - failed);
-    c_int::from(failed != 0)
+    ExitCode::from(u8::from(failed != 0))
 }
