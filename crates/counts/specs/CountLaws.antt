@@ -26,17 +26,17 @@ to_signed n = go (dec_lt n (2 ^ 63))
     go (yes p) = rw (lt-ltb n (2 ^ 63) p, le-ltb (2 ^ 63 - 1) n (omega arith))
     go (no q) = rw (le-ltb n (2 ^ 63) (omega arith), lt-ltb (2 ^ 63 - 1) n (omega arith))
 
-abbrev pub maxZ : ℤ → ℤ → ℤ
-maxZ a b = pick (int_lt a b) b a
+abbrev pub max_z : ℤ → ℤ → ℤ
+max_z a b = pick (int_lt a b) b a
 
 -- `count` is above the larger of the floor and twice the records, every word read as signed
-pub over_signed : (g : Settings) (count n : ℕ) → g.floor < 2 ^ 63 → over g count n ≡ int_lt (maxZ (to_z w64 g.floor) (to_z w64 (plus n n))) (to_z w64 count)
+pub over_signed : (g : Settings) (count n : ℕ) → g.floor < 2 ^ 63 → over g count n ≡ int_lt (max_z (to_z w64 g.floor) (to_z w64 (plus n n))) (to_z w64 count)
 unfolding over threshold
 over_signed g count n h =
     rw (to_signed g.floor, le-ltb (2 ^ 63 - 1) g.floor (omega arith), to_signed (plus n n), to_signed count)
     (go (plus n n) (negative (plus n n)) (negative count) (nat_lt g.floor (plus n n)) refl)
   where
-    go : (d : ℕ) (b b' b'' : Bool) → nat_lt g.floor d ≡ b'' → pick b' false (nat_lt (pick b g.floor (pick (nat_lt g.floor d) d g.floor)) count) ≡ int_lt (maxZ (pos g.floor) (pick b (negsuc (2 ^ 64 - suc d)) (pos d))) (pick b' (negsuc (2 ^ 64 - suc count)) (pos count))
+    go : (d : ℕ) (b b' b'' : Bool) → nat_lt g.floor d ≡ b'' → pick b' false (nat_lt (pick b g.floor (pick (nat_lt g.floor d) d g.floor)) count) ≡ int_lt (max_z (pos g.floor) (pick b (negsuc (2 ^ 64 - suc d)) (pos d))) (pick b' (negsuc (2 ^ 64 - suc count)) (pos count))
     go d false false true e = rw e
     go d false false false e = rw e
     go d false true true e = rw e

@@ -1,5 +1,5 @@
--- A number and its digits: what the reading of a number rests on. They stand apart from the definitions, so that an edit of
--- the definition is refused here.
+-- A number and its digits: each is read back from the other. They stand apart from the definitions, so that an edit of the
+-- definition is refused here.
 use Rattle.std.specs.Prelude.{ℕ, zero, suc, ◌+◌, ◌*◌, ◌/◌, ◌%◌, ◌^◌, ◌<◌, ◌≡◌, refl, true, List, [], ◌∷◌, ◌++◌, length}
 use Rattle.std.proofs.Common.{sym, ap, ◌∙◌, append_assoc, append-nil, lit<, arith, pow-suc, zero-add, add-zero, mul_assoc, div-add-mod', mod-lt, mod-eq_of_lt}
 use Rattle.std.proofs.Math.Nat.{one-le-pow, mod-one, mul-add-mod_self_right}

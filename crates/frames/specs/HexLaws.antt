@@ -1,4 +1,4 @@
--- Numbers and their digits: each is read back from the other.
+-- Digits: each is read back from its byte, and what is made of digits has no other bytes.
 use Rattle.std.specs.Prelude.{ℕ, zero, suc, ◌+◌, ◌*◌, ◌-◌, ◌/◌, ◌%◌, ◌^◌, ◌≤◌, ◌<◌, ◌≡◌, refl, true, List, [], ◌∷◌, ◌++◌, length, take, drop, ltb}
 use Rattle.std.proofs.Common.{length-append, lt-ltb, le-ltb, le-leb, ltb-true, arith, pow-suc}
 use Rattle.std.proofs.Math.Decide.{dec_lt, dec_le}
