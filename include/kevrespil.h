@@ -7,9 +7,9 @@
  *
  * Records are numbered 1 to 1,024, sources 1 to 64, nodes 1 to 4,096, and 0 is none.
  *
- * Link crates/kevrespil/out/libkevrespil.a, which `rt lib` writes in crates/kevrespil: x86-64, Linux. tools/library.c is
- * a small program that does. The machine needs no memory of its own, no lock and no clock; calls on one struct must not
- * run at the same time.
+ * Link crates/kevrespil_c/out/libkevrespil.a, which tools/archive.sh writes: x86-64, Linux. tools/library.c is a small
+ * program that does. The machine needs no memory of its own, no lock and no clock; calls on one struct must not run at
+ * the same time.
  */
 #ifndef KEVRESPIL_H
 #define KEVRESPIL_H

@@ -1,4 +1,4 @@
-//! Links the archive that `rt lib` writes in crates/kevrespil. KEVRESPIL_LIB names another folder that holds it.
+//! Links the archive that tools/archive.sh writes. KEVRESPIL_LIB names another folder that holds it.
 
 use std::env;
 use std::path::PathBuf;
@@ -11,12 +11,12 @@ fn main() {
     println!("cargo:rerun-if-env-changed=KEVRESPIL_LIB");
     let folder = match env::var_os("KEVRESPIL_LIB") {
         Some(folder) => PathBuf::from(folder),
-        None => PathBuf::from(env::var_os("CARGO_MANIFEST_DIR").unwrap()).join("../crates/kevrespil/out"),
+        None => PathBuf::from(env::var_os("CARGO_MANIFEST_DIR").unwrap()).join("../crates/kevrespil_c/out"),
     };
     let archive = folder.join("libkevrespil.a");
     println!("cargo:rerun-if-changed={}", archive.display());
     if !archive.is_file() {
-        panic!("there is no {}: run `rt lib` in crates/kevrespil", archive.display());
+        panic!("there is no {}: run tools/archive.sh", archive.display());
     }
     println!("cargo:rustc-link-search=native={}", folder.display());
     println!("cargo:rustc-link-lib=static=kevrespil");

@@ -49,10 +49,9 @@ finish() {
     exit
 }
 
-echo "the archive: rt lib in crates/kevrespil"
-archive=crates/kevrespil/out/libkevrespil.a
-rm -f "$archive"
-(cd crates/kevrespil && "$rt" lib) >"$work/said" 2>&1
+echo "the archive: tools/archive.sh"
+archive=crates/kevrespil_c/out/libkevrespil.a
+tools/archive.sh >"$work/said" 2>&1
 status=$?
 if [ "$status" -eq 0 ]; then
     for symbol in kevrespil_start kevrespil_step; do

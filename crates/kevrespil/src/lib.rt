@@ -1,5 +1,5 @@
-// The machine for C and for Rust: `start` and `step` under C's calling convention, over the five tables that the caller
-// lends. include/kevrespil.h says it in C's words.
+// The machine for C and for Rust: `start` and `step` by plain numbers, over the five tables that the caller
+// lends. include/kevrespil.h says it in C's words, and the crate kevrespil_c exports them.
 #![tactic(auto)]
 
 ghost use Rattle.std.specs.Prelude.{◌≡◌};
@@ -70,8 +70,7 @@ fn begin(
 }
 
 // The start of an operation by the numbers of its frame.
-#[unsafe(no_mangle)]
-pub extern "C" fn kevrespil_start(
+pub fn kevrespil_start(
     ids: &mut [u32],
     next: &mut [u32],
     state: &mut [u32],
@@ -90,8 +89,7 @@ pub extern "C" fn kevrespil_start(
 }
 
 // One step of a thread.
-#[unsafe(no_mangle)]
-pub extern "C" fn kevrespil_step(
+pub fn kevrespil_step(
     ids: &mut [u32],
     next: &mut [u32],
     state: &mut [u32],
