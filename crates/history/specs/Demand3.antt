@@ -14,7 +14,7 @@ use Rattle.rules.specs.Start.{start_of}
 use Rattle.rules.specs.declared.Operation.{Operation}
 use Rattle.rules.specs.declared.Operation.TheVariants.{Acquire, Release, Protect, Try, TryProtect, Reset, Raw, Swap}
 use Rattle.rules.specs.declared.Operation.TheVariants.{Retire, Eager, Cleanup, Shutdown}
-use Rattle.rules.specs.declared.Answer.{Answer}
+use Rattle.rules.specs.declared.answer.Answer.{Answer}
 use Rattle.rules.specs.declared.Row.{Row}
 use Rattle.rules.specs.declared.Named.{Named}
 use Rattle.rules.specs.declared.Named.TheVariants as cell

@@ -15,7 +15,7 @@ use Rattle.rules.specs.Step.{State, Out, answer, step_of}
 use Rattle.rules.specs.Start.{start_of, begins, narrow}
 use Rattle.rules.specs.declared.Operation.{Operation}
 use Rattle.rules.specs.declared.Operation.TheVariants.{Acquire, Release, Protect, Try, TryProtect, Reset, Raw, Swap, Retire, Eager, Cleanup, Shutdown}
-use Rattle.rules.specs.declared.Answer.{Answer}
+use Rattle.rules.specs.declared.answer.Answer.{Answer}
 use Rattle.rules.specs.declared.Row.{Row}
 use Rattle.rules.specs.declared.Seen.{Seen}
 use Rattle.bits.specs.BitLaws.{shard-below}

@@ -1,8 +1,11 @@
 // The types of the rules and the sizes of the tables. The rules themselves are the antt files of specs/.
 #![tactic(auto)]
 
+pub mod answer;
 pub mod kind;
-pub mod place;
+pub mod pc;
+
+use crate::pc::Pc;
 
 pub const RECORDS: u32 = 1024;
 
@@ -33,18 +36,12 @@ pub const FROM_ROWS: usize = FROM_RECORDS + RECORD_CELLS;
 // Steps after which every step is refused: 2^40.
 pub const STEPS: u64 = 1099511627776;
 
-// A node's states.
-pub const FREE: u32 = 0;
-
-pub const LIVE: u32 = 1;
-
-pub const WAITING: u32 = 2;
-
-// What comes back: document 01's number and value.
-#[derive(Clone, Copy)]
-pub struct Answer {
-    pub number: u32,
-    pub value: u64,
+// A node's states, which its cell holds as their numbers.
+#[derive(Clone, Copy, PartialEq, Eq)]
+pub enum NodeState {
+    Free,
+    Live,
+    Waiting,
 }
 
 // What a start asks for. A node is compared at 64 bits before it is narrowed.
@@ -93,6 +90,44 @@ pub struct Row {
     // `due_time` as E1 saw it, and E1's clock.
     pub due: u64,
     pub clock: u64,
+}
+
+impl Row {
+    ghost use Rattle.std.specs.Prelude.{◌≡◌};
+    ghost use Rattle.rules.specs.Rows.{go_to};
+
+    // The row of a thread that is inside no operation.
+    pub const IDLE: Row = Row {
+        place: 0,
+        operation: 0,
+        rec: 0,
+        next: 0,
+        source: 0,
+        node: 0,
+        seen: 0,
+        shard: 0,
+        lone: 0,
+        reclaimable: 0,
+        unreclaimed: 0,
+        tail: 0,
+        done: 0,
+        stolen: [0; 8],
+        count: 0,
+        rcount: 0,
+        total: 0,
+        due: 0,
+        clock: 0,
+    };
+
+    // The row of a thread that goes on at a place.
+    pub fn go_to(self, p: Pc) -> Row
+        ensures { result ≡ go_to p self }
+    {
+        Row {
+            place: p as u32,
+            ..self
+        }
+    }
 }
 
 // A shared cell by name. 0 is no record, source or node.
