@@ -1,3 +1,4 @@
 pub mod StoredLaws
 pub mod PartLaws
 pub mod CellLaws
+pub mod Lent

@@ -1,6 +1,8 @@
 // The shared cells: where each stands, whether a content is in its range, and one cell read or written in the lent tables.
 #![tactic(auto)]
 
+pub mod lent;
+
 ghost use Rattle.std.specs.Prelude.{◌≡◌, ◌+◌, ◌*◌, ◌%◌, ◌^◌, ◌<◌, [], drop, replicate, slice_index, slice_set};
 ghost use Rattle.base.specs.Pick.{pick};
 ghost use Rattle.rules.specs.Sizes.{records, from_records};
