@@ -58,12 +58,9 @@ pub fn emptied(r: Row) -> Row
 pub fn next_stolen(stolen: [u32; 8], from: u32) -> u32
     ensures { result ≡ stolen_from stolen from (8 - from) }
 {
-    for k in from..SHARDS {
-        if stolen[k as usize] != 0 {
-            return k;
-        }
-    }
-    from.max(SHARDS)
+    (from..SHARDS)
+        .find(|&k| stolen[k as usize] != 0)
+        .unwrap_or(from.max(SHARDS))
 }
 
 // The next shard with a stolen list, from `from` on; after the last, the test for done.
