@@ -8,7 +8,9 @@ use Rattle.std.proofs.Math.Dec.{eqb}
 use Rattle.std.proofs.lemmas.Bool.{eqb-false}
 use Rattle.rules.specs.Sizes.{threads, words, Settings, base}
 use Rattle.rules.specs.Words.{shard_of}
-use Rattle.rules.specs.Pc.{Pc, pc_of, code}
+use Rattle.rules.specs.Pc.{pc_of, code}
+use Rattle.rules.specs.declared.pc.Pc.{Pc}
+use Rattle.rules.specs.declared.pc.Pc.TheVariants as Pc
 use Rattle.rules.specs.Rows.{idle}
 use Rattle.rules.specs.Places.{accesses, does}
 use Rattle.rules.specs.Step.{State, Out, answer, step_of}

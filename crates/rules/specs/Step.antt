@@ -4,7 +4,7 @@ use Rattle.base.specs.Pick.{pick, both}
 use Rattle.rules.specs.Sizes.{records, sources, nodes, threads, words, row32, row64, head_cells, counter_cells}
 use Rattle.rules.specs.Sizes.{from_sources, from_records, from_rows, steps, Settings}
 use Rattle.rules.specs.Words.{is_guarded, guarded_also, none_guarded, plus}
-use Rattle.rules.specs.Pc
+use Rattle.rules.specs.declared.pc.Pc.TheVariants as Pc
 use Rattle.rules.specs.Pc.{code}
 use Rattle.rules.specs.Cells
 use Rattle.rules.specs.Cells.{in_range, address, accessed, nothing}

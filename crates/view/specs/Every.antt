@@ -1,10 +1,11 @@
 -- Every place and every start at once: one proof that fits each of them is a proof for all, so that no layer goes through them by itself.
-use Rattle.std.specs.Prelude.{ℕ, zero, suc, ◌+◌, ◌-◌, ◌^◌, ◌<◌, ◌≡◌, refl, Bool, true, false, List, [], ◌∷◌}
+use Rattle.std.specs.Prelude.{ℕ, zero, suc, ◌+◌, ◌-◌, ◌^◌, ◌<◌, ◌≡◌, refl, Bool, true, false, eqb, List, [], ◌∷◌}
 use Rattle.std.proofs.Common.{sym, ap, ◌∙◌, subst, arith}
 use Rattle.std.proofs.Math.Decide.{dec_lt}
 use Rattle.std.proofs.Math.ListN.{get_or-eq_default}
 use Rattle.base.specs.Pick.{pick}
-use Rattle.rules.specs.Pc.{Pc, Pc-discrete, order, pc_of, code}
+use Rattle.rules.specs.Pc.{order, pc_of, code}
+use Rattle.rules.specs.declared.pc.Pc.{Pc}
 use Rattle.rules.specs.declared.Effect.{Effect}
 use Rattle.rules.specs.declared.Operation.{Operation}
 use Rattle.rules.specs.declared.Operation.TheVariants.{Acquire, Release, Protect, Try, TryProtect, Reset, Raw, Swap, Retire, Eager, Cleanup, Shutdown}
@@ -65,7 +66,7 @@ pc_is p e = ap pc_of e ∙ pc_of_code p
 -- a class of places: what the list says of a place, else c
 abbrev pub classed : {C : Type 0} → C → List (Pc × C) → Pc → C
 classed c [] p = c
-classed c (x ∷ l) p = elim (Pc-discrete x.0 p) [ yes e ↦ x.1 | no ne ↦ classed c l p ]
+classed c (x ∷ l) p = pick (eqb (code x.0) (code p)) x.1 (classed c l p)
 
 -- both, as a type of its own, which `search` proves by `two`
 pub record Two (A B : Type 0) : Type 0 where

@@ -1,10 +1,7 @@
 -- All are digits if all that are left are.
-use Rattle.std.proofs.Common.{length, ◌-◌, ◌≡◌, drop}
+use Rattle.std.proofs.Common.{◌≡◌, drop}
 use Rattle.frames.specs.Hex.{all_digits}
 use Rattle.frames.proofs.all_digits.Given as goal
 
-abbrev pub invariant-loop-i : goal.invariant-loop-i
-invariant-loop-i l = all_digits l.bytes ≡ all_digits (drop l.i l.bytes)
-
-abbrev pub decreases-loop-i : goal.decreases-loop-i
-decreases-loop-i l = length l.bytes - l.i
+abbrev pub invariant-loop-b : goal.invariant-loop-b
+invariant-loop-b l = all_digits l.bytes ≡ all_digits (drop l.b-index l.bytes)

@@ -1,5 +1,4 @@
 use Rattle.std.proofs.Common.{◌≤◌, arith}
-use Rattle.rules.specs.Pc.{pc_of}
 use Rattle.rules.proofs.pc.PcFromU32.from.Goals as goal
 
 pub returns : goal.returns
@@ -8,4 +7,4 @@ returns c =
     let p = c.copied.ensures in
     let l = c.get.ensures.lookup in
     let q : c.args.n ≤ c.args.n = omega arith in
-    rw (u, p) (l.4 q Rattle.rules.specs.Pc.Unknown)
+    rw (u, p) (l.4 q Rattle.rules.specs.declared.pc.Pc.TheVariants.Unknown)
