@@ -6,6 +6,3 @@ use Rattle.passes.proofs.next_stolen.Given as goal
 
 abbrev pub invariant-loop-k : goal.invariant-loop-k
 invariant-loop-k l = Going (stolen_from l.stolen) 8 l.k (stolen_from l.stolen l.from (8 - l.from))
-
-abbrev pub decreases-loop-k : goal.decreases-loop-k
-decreases-loop-k l = 8 - l.k
