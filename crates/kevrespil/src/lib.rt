@@ -10,9 +10,10 @@ ghost use Rattle.frames.specs.Frames.{fields, framed};
 ghost use Rattle.kevrespil.specs.Call.{begun};
 
 use frames::Line;
-use rules::Operation;
+use rules::answer::{Answer, Outcome, Refusal};
+use tables::lent::Lent;
 
-// What comes back: document 01's number and value.
+// What comes back: an answer's number and value.
 #[repr(C)]
 #[derive(Drop)]
 pub struct Reply {
@@ -20,52 +21,15 @@ pub struct Reply {
     pub value: u64,
 }
 
-fn started(
-    ids: &mut [u32],
-    next: &mut [u32],
-    state: &mut [u32],
-    words: &mut [u64],
-    guards: &mut [u64],
-    t: u32,
-    o: Operation,
-) -> Reply
-    ensures { out (answer result.number result.value) (lent ids.new next.new state.new words.new guards.new) ≡ start_of base (lent ids.old next.old state.old words.old guards.old) t o }
-{
-    let a = machine::start::start(ids, next, state, words, guards, t, o);
-    Reply {
-        number: a.number,
-        value: a.value,
-    }
-}
+impl From<Result<Outcome, Refusal>> for Reply {
+    ghost use Rattle.std.specs.Prelude.{◌≡◌};
+    ghost use Rattle.rules.specs.Answers.{answer, answer_of};
 
-// A line that is no start is refused by 28, as a bad frame is.
-#[tactic(auto, unfolding(crate::specs::Call::begun))]
-fn begin(
-    ids: &mut [u32],
-    next: &mut [u32],
-    state: &mut [u32],
-    words: &mut [u64],
-    guards: &mut [u64],
-    l: Line,
-) -> Reply
-    ensures { out (answer result.number result.value) (lent ids.new next.new state.new words.new guards.new) ≡ begun base (lent ids.old next.old state.old words.old guards.old) l }
-{
-    match l {
-        Line::Step {
-            thread,
-            flag,
-            clock,
-        } => Reply {
-            number: 28,
-            value: 0,
-        },
-        Line::Start { thread, operation } => started(
-            ids, next, state, words, guards, thread, operation,
-        ),
-        Line::Bad => Reply {
-            number: 28,
-            value: 0,
-        },
+    ghost from_gives = { λ r a. answer a.number a.value ≡ answer_of r };
+
+    fn from(r: Result<Outcome, Refusal>) -> Reply {
+        let Answer { number, value } = Answer::from(r);
+        Reply { number, value }
     }
 }
 
@@ -84,8 +48,19 @@ pub fn kevrespil_start(
 ) -> Reply
     ensures { out (answer result.number result.value) (lent ids.new next.new state.new words.new guards.new) ≡ begun base (lent ids.old next.old state.old words.old guards.old) (framed (fields kind thread a b c)) }
 {
+    let mut tables = Lent {
+        ids,
+        next,
+        state,
+        words,
+        guards,
+    };
     let l = frames::line_by_kind(kind, thread, a, b, c);
-    begin(ids, next, state, words, guards, l)
+    Reply::from(match l {
+        Line::Start { thread, operation } => machine::start::start(&mut tables, thread, operation),
+        // A line that is no start is refused as a bad frame is.
+        Line::Step { .. } | Line::Bad => Err(Refusal::NoOperation),
+    })
 }
 
 // One step of a thread.
@@ -101,9 +76,12 @@ pub fn kevrespil_step(
 ) -> Reply
     ensures { out (answer result.number result.value) (lent ids.new next.new state.new words.new guards.new) ≡ step_of base (lent ids.old next.old state.old words.old guards.old) thread flag clock }
 {
-    let a = machine::step::step(ids, next, state, words, guards, thread, flag, clock);
-    Reply {
-        number: a.number,
-        value: a.value,
-    }
+    let mut tables = Lent {
+        ids,
+        next,
+        state,
+        words,
+        guards,
+    };
+    Reply::from(machine::step::step(&mut tables, thread, flag, clock))
 }

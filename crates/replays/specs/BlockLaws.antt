@@ -15,9 +15,8 @@ use Rattle.frames.specs.declared.Line.{Line}
 use Rattle.texts.specs.Lines.{up_to}
 use Rattle.texts.specs.LineLaws.{take-front, up_none, up_on, up_all, up_first}
 use Rattle.texts.specs.TextLaws.{sets_append}
-use Rattle.replays.specs.declared.Reply.{Reply}
 use Rattle.replays.specs.declared.runner.Kept.{Kept}
-use Rattle.replays.specs.Replay.{replied, reply_to, line_in, Ran, ran, written, ran_line}
+use Rattle.replays.specs.Replay.{Reply, replied, reply_to, line_in, Ran, ran, written, ran_line}
 use Rattle.replays.specs.RunnerLaws.{fitting-front}
 use Rattle.replays.specs.Runner.{Stand, stand, keep, Run, behind, run_bytes, fitting, run_block, Left, left, block_of, Ends}
 

@@ -1,12 +1,11 @@
 // Blocks of a replay's lines.
 ghost use Rattle.std.specs.Prelude.{◌≡◌, ◌+◌, ◌≤◌, length, take};
-ghost use Rattle.std.proofs.lemmas.List.Edits.{sets};
 ghost use Rattle.rules.specs.Sizes.{base};
-ghost use Rattle.rules.specs.Step.{lent};
-ghost use Rattle.frames.specs.Frames.{answer_of};
+ghost use Rattle.tables.specs.Lent.{held, AreSame};
 ghost use Rattle.replays.specs.Runner.{left, block_of, standing, Begins, Ends};
 
-use crate::{Reply, reply_to};
+use crate::reply_to;
+use tables::lent::Lent;
 
 // The bytes of an answer.
 pub const ANSWER: usize = 21;
@@ -34,31 +33,14 @@ pub fn begun(number: u64) -> Kept
     Kept {
         bytes: [0; 29],
         len: 0,
-        number: number,
+        number,
     }
 }
 
-// An answer line goes behind the bytes used.
-fn answer(out: &mut [u8], used: usize, r: Reply)
-    requires { used + 21 ≤ length out.old }
-    ensures { out.new ≡ sets out.old used (answer_of r.number r.thread r.value) }
-{
-    let text = frames::answer_line(r.number, r.thread, r.value);
-    texts::word(out, used, &text);
-}
-
 // The lines of a block are run, and their answers are put at the front of `out`, until there is no room for one more.
-pub fn run_block(
-    ids: &mut [u32],
-    next: &mut [u32],
-    state: &mut [u32],
-    words: &mut [u64],
-    guards: &mut [u64],
-    kept: Kept,
-    input: &[u8],
-    out: &mut [u8],
-) -> Block
-    ensures { left out.new result.used result.taken (standing (lent ids.new next.new state.new words.new guards.new) result.kept) ≡ block_of base (standing (lent ids.old next.old state.old words.old guards.old) kept) input.now out.old }
+pub fn run_block(tables: &mut Lent, kept: Kept, input: &[u8], out: &mut [u8]) -> Block
+    ensures block { left out.new result.used result.taken (standing (held tables.new) result.kept) ≡ block_of base (standing (held tables.old) kept) input.now out.old }
+    ensures same { AreSame tables.old tables.new }
 {
     let mut bytes = kept.bytes;
     let mut number = kept.number;
@@ -68,23 +50,20 @@ pub fn run_block(
         if out.len() - used < ANSWER {
             break;
         }
-        let from = 0usize;
-        let len = g.len;
-        let line = &bytes[from..len];
-        let l = frames::read_line(line);
-        let r = reply_to(ids, next, state, words, guards, number, l);
-        answer(out, used, r);
+        let l = frames::read_line(&bytes[..g.len]);
+        let r = reply_to(tables, number, l);
+        texts::word(out, used, &r.text());
         used += ANSWER;
-        number = std::num::wrapping_add_u64(number, 1);
+        number = number.wrapping_add(1);
         g = texts::gather(&mut bytes, 0, input, g.at + 1);
     }
     Block {
         taken: g.at,
-        used: used,
+        used,
         kept: Kept {
-            bytes: bytes,
+            bytes,
             len: g.len,
-            number: number,
+            number,
         },
     }
 }
@@ -102,13 +81,7 @@ pub fn finish(kept: Kept) -> Ending
 {
     let text = frames::answer_line(28, 0, kept.number);
     if kept.len == 0 {
-        return Ending {
-            text: text,
-            used: 0,
-        };
+        return Ending { text, used: 0 };
     }
-    Ending {
-        text: text,
-        used: ANSWER,
-    }
+    Ending { text, used: ANSWER }
 }

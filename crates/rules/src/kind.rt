@@ -44,14 +44,3 @@ impl TryFrom<u32> for Kind {
         }
     }
 }
-
-impl From<Kind> for u32 {
-    ghost use Rattle.std.specs.Prelude.{◌≡◌};
-    ghost use Rattle.rules.specs.Kind.{kind};
-
-    ghost from_gives = { λ k n. n ≡ kind k };
-
-    fn from(k: Kind) -> u32 {
-        k as u32
-    }
-}

@@ -113,14 +113,3 @@ impl From<u32> for Pc {
         PLACES.get(n as usize).copied().unwrap_or(Pc::Unknown)
     }
 }
-
-impl From<Pc> for u32 {
-    ghost use Rattle.std.specs.Prelude.{◌≡◌};
-    ghost use Rattle.rules.specs.Pc.{code};
-
-    ghost from_gives = { λ p n. n ≡ code p };
-
-    fn from(p: Pc) -> u32 {
-        p as u32
-    }
-}
