@@ -13,10 +13,10 @@ pub fn is_guarded(set: &[u64], n: u32) -> bool
     let Some(bit) = n.checked_sub(1) else {
         return false;
     };
-    let Some(word) = set.get((bit / 64) as usize) else {
+    let Some(word) = set.get((bit >> 6) as usize) else {
         return false;
     };
-    (word >> (bit % 64)) % 2 == 1
+    (word >> (bit & 63)) & 1 == 1
 }
 
 #[tactic(auto, unfolding(rules::specs::Words::guarded_also))]
@@ -26,9 +26,9 @@ pub fn guard(set: &mut [u64], n: u32)
     let Some(bit) = n.checked_sub(1) else {
         return;
     };
-    let word = (bit / 64) as usize;
+    let word = (bit >> 6) as usize;
     if word < set.len() {
-        set[word] |= 1 << (bit % 64);
+        set[word] |= 1 << (bit & 63);
     }
 }
 

@@ -6,7 +6,7 @@ ghost use Rattle.rules.specs.Answers.{number_of};
 ghost use Rattle.rules.specs.Places.{answers, becomes, finishes, retry, ends, damaged, stores, also_stores, clears_guards, guarding, reclaims, closing};
 
 use rules::answer::Refusal;
-use rules::{Effect, Guards, Named, Row};
+use rules::{Effect, Guards, Mark, Named, Row};
 
 // The step is answered, and leaves the thread this row.
 pub fn answers(number: u32, value: u64, row: Row) -> Effect
@@ -114,6 +114,6 @@ pub fn closing(total: u64) -> Effect
 {
     Effect {
         closes: true,
-        ..stores(2, finishes(total))
+        ..stores(Mark::Closed as u64, finishes(total))
     }
 }

@@ -8,7 +8,7 @@ ghost use Rattle.rules.specs.Rows.{stolen_from, freed};
 ghost use Rattle.base.specs.Pick.{pick};
 
 use rules::pc::Pc;
-use rules::{Row, SHARDS};
+use rules::{Done, Row, SHARDS};
 
 // A new pass steals from shard 0 on.
 pub fn new_pass(r: Row) -> Row
@@ -25,9 +25,9 @@ pub fn new_pass(r: Row) -> Row
 pub fn checked(r: Row) -> Row
     ensures { result ≡ checked r }
 {
-    if r.done == 0 {
+    if r.done == Done::NotYet as u32 {
         r.go_to(if r.rcount == 0 { Pc::E1 } else { Pc::B1 })
-    } else if r.rcount == 0 && r.done == 2 {
+    } else if r.rcount == 0 && r.done == Done::Empty as u32 {
         r.go_to(Pc::C3)
     } else {
         new_pass(r)
@@ -58,12 +58,9 @@ pub fn emptied(r: Row) -> Row
 pub fn next_stolen(stolen: [u32; 8], from: u32) -> u32
     ensures { result ≡ stolen_from stolen from (8 - from) }
 {
-    for k in from..SHARDS {
-        if stolen[k as usize] != 0 {
-            return k;
-        }
-    }
-    from.max(SHARDS)
+    (from..SHARDS)
+        .find(|&k| stolen[k as usize] != 0)
+        .unwrap_or(from.max(SHARDS))
 }
 
 // The next shard with a stolen list, from `from` on; after the last, the test for done.

@@ -9,7 +9,7 @@ use effects::{also_stores, becomes, clears_guards, damaged, finishes, guarding, 
 use passes::{emptied, examine_from, examined, freed, new_pass, next_stolen, passed, reclaimed};
 use rules::kind::Kind;
 use rules::pc::Pc;
-use rules::{Effect, Named, Row, SHARDS, Seen};
+use rules::{Done, Effect, Named, Row, SHARDS, Seen};
 
 // B1: `nbulk_reclaims` + 1.
 pub fn b1(r: Row, i: Seen) -> Effect
@@ -31,17 +31,20 @@ fn stealing(r: Row, v: u32) -> Row
 pub fn steal(r: Row, i: Seen) -> Effect
     ensures { result ≡ does base Pc.Steal r i }
 {
-    let stolen = stealing(r, i.v);
+    let taken = stealing(r, i.v);
     let next = r.shard % SHARDS + 1;
     let on = if next != SHARDS {
         Row {
             shard: next,
-            ..stolen
+            ..taken
         }
-    } else if next_stolen(stolen.stolen, 0) == SHARDS {
-        passed(Row { done: 2, ..stolen })
+    } else if next_stolen(taken.stolen, 0) == SHARDS {
+        passed(Row {
+            done: Done::Empty as u32,
+            ..taken
+        })
     } else {
-        stolen.go_to(Pc::H1)
+        taken.go_to(Pc::H1)
     };
     stores(0, becomes(on))
 }
@@ -111,9 +114,15 @@ pub fn empty(r: Row, i: Seen) -> Effect
 {
     let next = r.shard % SHARDS + 1;
     if i.v != 0 {
-        becomes(emptied(Row { done: 1, ..r }))
+        becomes(emptied(Row {
+            done: Done::Left as u32,
+            ..r
+        }))
     } else if next == SHARDS {
-        becomes(emptied(Row { done: 2, ..r }))
+        becomes(emptied(Row {
+            done: Done::Empty as u32,
+            ..r
+        }))
     } else {
         becomes(Row { shard: next, ..r })
     }

@@ -44,6 +44,23 @@ pub enum NodeState {
     Waiting,
 }
 
+// What the shutdown's cell holds.
+#[derive(Clone, Copy, PartialEq, Eq)]
+pub enum Mark {
+    Open,
+    Closing,
+    Closed,
+}
+
+// What the test for done saw at the end of a pass, which a row keeps as its number: no pass has ended, a shard had nodes
+// left, all were empty.
+#[derive(Clone, Copy, PartialEq, Eq)]
+pub enum Done {
+    NotYet,
+    Left,
+    Empty,
+}
+
 // What a start asks for. A node is compared at 64 bits before it is narrowed.
 #[derive(Clone, Copy)]
 pub enum Operation {
@@ -64,7 +81,7 @@ pub enum Operation {
 // A thread's row between two steps; all 0 while the thread is idle.
 #[derive(Clone, Copy)]
 pub struct Row {
-    // The program place, and the operation by its kind in a frame.
+    // The program place and the operation, as `Pc` and `Kind`.
     pub place: u32,
     pub operation: u32,
     // The record that is acquired, released, stored to or scanned; the record seen at a head or behind it.
@@ -80,7 +97,7 @@ pub struct Row {
     pub reclaimable: u32,
     pub unreclaimed: u32,
     pub tail: u32,
-    // 0 before the end of a first pass, then 1 where a shard was seen not empty, 2 where all were seen empty.
+    // What the test for done saw last, as `Done`.
     pub done: u32,
     pub stolen: [u32; 8],
     // `count` as K1 or K3 saw it; what was taken from it, less what has been reclaimed since; all that was reclaimed.
