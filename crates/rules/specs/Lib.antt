@@ -10,3 +10,4 @@ pub mod Start
 pub mod Facts
 pub mod Answers
 pub mod Kind
+pub mod Every
