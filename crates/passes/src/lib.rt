@@ -54,7 +54,7 @@ pub fn emptied(r: Row) -> Row
     }
 }
 
-// The first shard from `from` on with a stolen list; past the last, if there is none.
+// The first shard from `from` on with a stolen list; past the last, if there is none: a number, as the rules' search has it.
 pub fn next_stolen(stolen: [u32; 8], from: u32) -> u32
     ensures { result ≡ stolen_from stolen from (8 - from) }
 {
