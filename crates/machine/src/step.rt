@@ -14,7 +14,7 @@ use rows::{ROW32, ROW64};
 use rules::answer::{Outcome, Refusal};
 use rules::pc::Pc;
 use rules::{COUNTER_CELLS, Cell, Effect, FROM_ROWS, NODES, STEPS, THREADS};
-use tables::{Lent, accessed, counter, item_from};
+use tables::{Lent, STEPS_TAKEN, accessed, counter};
 
 // The sizes of the tables.
 const IDS: usize = FROM_ROWS + ROW32 * THREADS as usize;
@@ -61,10 +61,10 @@ pub(crate) fn admit(tables: &Lent, t: u32) -> Result<(), Refusal>
 fn ready(tables: &Lent, t: u32) -> Result<(), Refusal>
     ensures { refusal_of result ≡ pick (leb steps (slice_index (held tables.now).cells.counters 4)) 19 (pick (eqb (slice_index (held tables.now).rows32 (t * row32)) (code Pc.Idle)) 21 0) }
 {
-    if counter(tables.words, 4) >= STEPS {
+    if counter(tables.words, STEPS_TAKEN) >= STEPS {
         return Err(Refusal::StepLimit);
     }
-    if item_from(tables.ids, FROM_ROWS, t as usize * ROW32) == Pc::Idle as u32 {
+    if rows::place(tables, t) == Pc::Idle as u32 {
         return Err(Refusal::Idle);
     }
     Ok(())
@@ -81,7 +81,7 @@ fn give(tables: &mut Lent, t: u32, c: Cell, e: Effect)
     guards_given(tables.guards, t, e.guards);
 }
 
-// What an effect answers.
+// What an effect answers. It has its numbers, since theorems speak of any rules::Effect.
 fn told(e: Effect) -> Result<Outcome, Refusal>
     requires { Told e }
     ensures { answer_of result ≡ answer e.number e.value }
