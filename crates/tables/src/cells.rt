@@ -37,7 +37,7 @@ impl From<u32> for Table {
 
 // The cell of an id that is none.
 const NOWHERE: Cell = Cell {
-    table: 0,
+    table: Table::Nowhere as u32,
     at: 0,
     class: Class::NoCell,
 };

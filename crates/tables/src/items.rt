@@ -92,8 +92,8 @@ pub fn item_in<T: Word>(t: &[T], part: Part, at: usize) -> T
     }
 }
 
-// Whose word `at` becomes v.
-pub fn put_in<T: Word>(t: &mut [T], part: Part, at: usize, v: T)
+// A word of a part becomes v; nothing is written past the part's end.
+pub(crate) fn put_in<T: Word>(t: &mut [T], part: Part, at: usize, v: T)
     requires { part.from + part.n < 2 ^ 64 }
     ensures { t.new ≡ pick (nat_lt at part.n) (slice_set t.old (part.from + at) v) t.old }
 {
