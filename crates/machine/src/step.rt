@@ -25,7 +25,7 @@ const SUMS: usize = COUNTER_CELLS + ROW64 * THREADS as usize;
 
 const GUARD_WORDS: usize = WORDS * THREADS as usize;
 
-// Whether the tables have their sizes.
+// Whether the tables have their sizes. It is promised for any five lengths, also of tables that nobody lends.
 pub fn sized(ids: usize, next: usize, state: usize, words: usize, guards: usize) -> bool
     ensures { result ≡ both (eqb ids 4507) (both (eqb next 4096) (both (eqb state 4096) (both (eqb words 85) (eqb guards 1024)))) }
 {
