@@ -26,6 +26,7 @@ pub fn guard(set: &mut [u64], n: u32)
     let Some(bit) = n.checked_sub(1) else {
         return;
     };
+    // By index: `get_mut` promises nothing of what the slice ends as, so a proof cannot close over it.
     let word = (bit / 64) as usize;
     if word < set.len() {
         set[word] |= 1 << (bit % 64);

@@ -72,7 +72,7 @@ pub fn access(r: Row) -> Access
     }
 }
 
-// The cell that it reads beside it.
+// The cell that it reads beside it; the arm for the rest stands for 45 places that read none.
 #[tactic(auto, using(crate::proofs::Numbers::code_of), unfolding(rules::specs::Places::follow_of))]
 pub fn follow(r: Row, untaken: u32) -> Named
     ensures { result ≡ follow_of r untaken }

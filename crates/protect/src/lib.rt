@@ -1,4 +1,5 @@
-// Protect and the tries, reset and raw; and the swap of a source.
+// Protect and the tries, reset and raw; and the swap of a source. A row keeps kinds, and a cell states, as numbers, which
+// the rules speak of.
 #![tactic(auto)]
 
 ghost use Rattle.std.specs.Prelude.{◌≡◌};

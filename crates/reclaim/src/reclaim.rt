@@ -31,17 +31,17 @@ fn stealing(r: Row, v: u32) -> Row
 pub fn steal(r: Row, i: Seen) -> Effect
     ensures { result ≡ does base Pc.Steal r i }
 {
-    let stolen = stealing(r, i.v);
+    let taken = stealing(r, i.v);
     let next = r.shard % SHARDS + 1;
     let on = if next != SHARDS {
         Row {
             shard: next,
-            ..stolen
+            ..taken
         }
-    } else if next_stolen(stolen.stolen, 0) == SHARDS {
-        passed(Row { done: 2, ..stolen })
+    } else if next_stolen(taken.stolen, 0) == SHARDS {
+        passed(Row { done: 2, ..taken })
     } else {
-        stolen.go_to(Pc::H1)
+        taken.go_to(Pc::H1)
     };
     stores(0, becomes(on))
 }
