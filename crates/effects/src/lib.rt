@@ -2,10 +2,10 @@
 #![tactic(auto)]
 
 ghost use Rattle.std.specs.Prelude.{◌≡◌};
-ghost use Rattle.rules.specs.Answers.{number_of};
+ghost use Rattle.rules.specs.Answers.{number_of, answer_of};
 ghost use Rattle.rules.specs.Places.{answers, becomes, finishes, retry, ends, damaged, stores, also_stores, clears_guards, guarding, reclaims, closing};
 
-use rules::answer::Refusal;
+use rules::answer::{Answer, Outcome, Refusal};
 use rules::{Effect, Guards, Mark, Named, Row};
 
 // The step is answered, and leaves the thread this row.
@@ -25,39 +25,47 @@ pub fn answers(number: u32, value: u64, row: Row) -> Effect
     }
 }
 
+// So it is, by what the operation has come to.
+fn answered(r: Result<Outcome, Refusal>, row: Row) -> Effect
+    ensures { result ≡ answers (answer_of r).number (answer_of r).value row }
+{
+    let Answer { number, value } = Answer::from(r);
+    answers(number, value, row)
+}
+
 // The step goes on with this row.
 pub fn becomes(row: Row) -> Effect
     ensures { result ≡ becomes row }
 {
-    answers(0, 0, row)
+    answered(Ok(Outcome::Stepped), row)
 }
 
 // The operation ends, and the thread is idle.
 pub fn finishes(value: u64) -> Effect
     ensures { result ≡ finishes value }
 {
-    answers(2, value, Row::IDLE)
+    answered(Ok(Outcome::Done(value)), Row::IDLE)
 }
 
 // So it does, and is to be tried again.
 pub fn retry(seen: u64) -> Effect
     ensures { result ≡ retry seen }
 {
-    answers(3, seen, Row::IDLE)
+    answered(Ok(Outcome::Retry(seen)), Row::IDLE)
 }
 
 // So it does, refused.
 pub fn ends(why: Refusal) -> Effect
     ensures { result ≡ ends (number_of why) }
 {
-    answers(why.number(), 0, Row::IDLE)
+    answered(Err(why), Row::IDLE)
 }
 
 // A cell that was read is out of its range.
 pub fn damaged(row: Row) -> Effect
     ensures { result ≡ damaged row }
 {
-    answers(Refusal::OutOfRange.number(), 0, row)
+    answered(Err(Refusal::OutOfRange), row)
 }
 
 // And the step's cell becomes `put`.
@@ -86,7 +94,7 @@ pub fn also_stores(cell: Named, to: u64, e: Effect) -> Effect
 pub fn reclaims(node: u32, row: Row) -> Effect
     ensures { result ≡ reclaims node row }
 {
-    let gone = answers(4, node as u64, row);
+    let gone = answered(Ok(Outcome::Reclaimed(u64::from(node))), row);
     stores(0, also_stores(Named::NodeState(node), 0, gone))
 }
 
