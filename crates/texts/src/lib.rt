@@ -146,10 +146,14 @@ impl<const N: usize> Text<N> {
         self.len = fill(&mut self.bytes, self.len, words);
     }
 
+    #[tactic(auto, using(crate::specs::LineLaws::kept_more, crate::specs::LineLaws::kept_full))]
     pub fn put(&mut self, byte: u8)
         ensures { self.new ≡ take N (self.old ++ byte ∷ []) }
     {
-        self.say(&[byte]);
+        if self.len < N {
+            self.bytes[self.len] = byte;
+            self.len += 1;
+        }
     }
 
     pub fn number(&mut self, x: u64)
