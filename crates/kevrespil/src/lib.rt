@@ -5,13 +5,16 @@
 ghost use Rattle.std.specs.Prelude.{◌≡◌};
 ghost use Rattle.rules.specs.Sizes.{base};
 ghost use Rattle.rules.specs.Step.{lent, out, answer, step_of};
-ghost use Rattle.rules.specs.Start.{start_of};
+ghost use Rattle.rules.specs.Answers.{answer_of};
+ghost use Rattle.tables.specs.Lent.{held, AreSame};
 ghost use Rattle.frames.specs.Frames.{fields, framed};
 ghost use Rattle.kevrespil.specs.Call.{begun};
 
 use frames::Line;
+use machine::start::start;
+use machine::step::step;
 use rules::answer::{Answer, Outcome, Refusal};
-use tables::lent::Lent;
+use tables::Lent;
 
 // What comes back: an answer's number and value.
 #[repr(C)]
@@ -30,6 +33,18 @@ impl From<Result<Outcome, Refusal>> for Reply {
     fn from(r: Result<Outcome, Refusal>) -> Reply {
         let Answer { number, value } = Answer::from(r);
         Reply { number, value }
+    }
+}
+
+// A line that is no start is refused as a bad frame is.
+#[tactic(auto, unfolding(crate::specs::Call::begun))]
+fn begin(tables: &mut Lent, l: Line) -> Result<Outcome, Refusal>
+    ensures begin { out (answer_of result) (held tables.new) ≡ begun base (held tables.old) l }
+    ensures same { AreSame tables.old tables.new }
+{
+    match l {
+        Line::Start { thread, operation } => start(tables, thread, operation),
+        Line::Step { .. } | Line::Bad => Err(Refusal::NoOperation),
     }
 }
 
@@ -56,11 +71,7 @@ pub fn kevrespil_start(
         guards,
     };
     let l = frames::line_by_kind(kind, thread, a, b, c);
-    Reply::from(match l {
-        Line::Start { thread, operation } => machine::start::start(&mut tables, thread, operation),
-        // A line that is no start is refused as a bad frame is.
-        Line::Step { .. } | Line::Bad => Err(Refusal::NoOperation),
-    })
+    Reply::from(begin(&mut tables, l))
 }
 
 // One step of a thread.
@@ -83,5 +94,5 @@ pub fn kevrespil_step(
         words,
         guards,
     };
-    Reply::from(machine::step::step(&mut tables, thread, flag, clock))
+    Reply::from(step(&mut tables, thread, flag, clock))
 }

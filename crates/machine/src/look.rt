@@ -9,7 +9,7 @@ ghost use Rattle.machine.specs.Told.{Told};
 use crate::guards::guarded_at;
 use rules::answer::Refusal;
 use rules::{Cell, Effect, Row, Seen};
-use tables::{Lent, accessed, address, in_range};
+use tables::{Lent, accessed, address, cut, in_range};
 
 // A step as it is asked for: whose it is, its flag, and the clock.
 #[derive(Clone, Copy)]
@@ -24,9 +24,9 @@ fn seen(x: u64, y: u64, untaken: u32, guarded: bool, turn: Turn) -> Seen
 {
     Seen {
         x,
-        v: (x % 4294967296) as u32,
+        v: cut(x),
         y,
-        w: (y % 4294967296) as u32,
+        w: cut(y),
         untaken,
         guarded,
         thread: turn.thread,

@@ -14,7 +14,7 @@ use rows::{ROW32, ROW64};
 use rules::answer::{Outcome, Refusal};
 use rules::pc::Pc;
 use rules::{COUNTER_CELLS, Cell, Effect, FROM_ROWS, NODES, STEPS, THREADS};
-use tables::{Lent, accessed, counter, item_from};
+use tables::{Lent, STEPS_TAKEN, accessed, counter};
 
 // The sizes of the tables.
 const IDS: usize = FROM_ROWS + ROW32 * THREADS as usize;
@@ -25,7 +25,7 @@ const SUMS: usize = COUNTER_CELLS + ROW64 * THREADS as usize;
 
 const GUARD_WORDS: usize = WORDS * THREADS as usize;
 
-// Whether the tables have their sizes.
+// Whether the tables have their sizes. It is promised for any five lengths, also of tables that nobody lends.
 pub fn sized(ids: usize, next: usize, state: usize, words: usize, guards: usize) -> bool
     ensures { result ≡ both (eqb ids 4507) (both (eqb next 4096) (both (eqb state 4096) (both (eqb words 85) (eqb guards 1024)))) }
 {
@@ -61,10 +61,10 @@ pub(crate) fn admit(tables: &Lent, t: u32) -> Result<(), Refusal>
 fn ready(tables: &Lent, t: u32) -> Result<(), Refusal>
     ensures { refusal_of result ≡ pick (leb steps (slice_index (held tables.now).cells.counters 4)) 19 (pick (eqb (slice_index (held tables.now).rows32 (t * row32)) (code Pc.Idle)) 21 0) }
 {
-    if counter(tables.words, 4) >= STEPS {
+    if counter(tables.words, STEPS_TAKEN) >= STEPS {
         return Err(Refusal::StepLimit);
     }
-    if item_from(tables.ids, FROM_ROWS, t as usize * ROW32) == Pc::Idle as u32 {
+    if rows::place(tables, t) == Pc::Idle as u32 {
         return Err(Refusal::Idle);
     }
     Ok(())
@@ -81,7 +81,7 @@ fn give(tables: &mut Lent, t: u32, c: Cell, e: Effect)
     guards_given(tables.guards, t, e.guards);
 }
 
-// What an effect answers.
+// What an effect answers. It has its numbers, since theorems speak of any rules::Effect.
 fn told(e: Effect) -> Result<Outcome, Refusal>
     requires { Told e }
     ensures { answer_of result ≡ answer e.number e.value }

@@ -1,5 +1,4 @@
 -- What a reply is as an answer line's number, thread and value.
-use Rattle.std.specs.Prelude.{ℕ}
 use Rattle.rules.specs.Answers.{answer_of}
 use Rattle.replays.specs.Replay as replay
 use Rattle.replays.specs.Replay.{reply}

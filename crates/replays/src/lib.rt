@@ -12,8 +12,9 @@ use frames::Line;
 use machine::start::start;
 use machine::step::step;
 use rules::answer::{Answer, Outcome, Refusal};
-use tables::lent::Lent;
+use tables::Lent;
 
+pub mod kept;
 pub mod runner;
 
 // What a line comes to: what its thread's start or step is answered, or that it is none.

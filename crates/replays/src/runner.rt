@@ -1,22 +1,16 @@
 // Blocks of a replay's lines.
-ghost use Rattle.std.specs.Prelude.{◌≡◌, ◌+◌, ◌≤◌, length, take};
+ghost use Rattle.std.specs.Prelude.{◌≡◌, ◌≤◌, length};
 ghost use Rattle.rules.specs.Sizes.{base};
 ghost use Rattle.tables.specs.Lent.{held, AreSame};
-ghost use Rattle.replays.specs.Runner.{left, block_of, standing, Begins, Ends};
+ghost use Rattle.replays.specs.Runner.{left, block_of, standing, Begins, Ends, ending};
 
-use crate::reply_to;
-use tables::lent::Lent;
+pub use crate::kept::Kept;
+use crate::{Reply, reply_to};
+use tables::Lent;
+use texts::Text;
 
 // The bytes of an answer.
 pub const ANSWER: usize = 21;
-
-// What is kept between two blocks: the first bytes of the line begun, how many, and the line's number.
-#[derive(Drop)]
-pub struct Kept {
-    pub bytes: [u8; 29],
-    pub len: usize,
-    pub number: u64,
-}
 
 // What a block leaves: how many bytes of the input were run, how many bytes of answers there are, and what is kept.
 #[derive(Drop)]
@@ -31,8 +25,7 @@ pub fn begun(number: u64) -> Kept
     ensures { Begins number result }
 {
     Kept {
-        bytes: [0; 29],
-        len: 0,
+        line: Text::new(),
         number,
     }
 }
@@ -42,46 +35,35 @@ pub fn run_block(tables: &mut Lent, kept: Kept, input: &[u8], out: &mut [u8]) ->
     ensures block { left out.new result.used result.taken (standing (held tables.new) result.kept) ≡ block_of base (standing (held tables.old) kept) input.now out.old }
     ensures same { AreSame tables.old tables.new }
 {
-    let mut bytes = kept.bytes;
+    let mut line = kept.line;
     let mut number = kept.number;
     let mut used = 0usize;
-    let mut g = texts::gather(&mut bytes, kept.len, input, 0);
-    while g.at < input.len() {
+    let mut at = line.gather(input);
+    while at < input.len() {
         if out.len() - used < ANSWER {
             break;
         }
-        let l = frames::read_line(&bytes[..g.len]);
-        let r = reply_to(tables, number, l);
-        texts::word(out, used, &r.text());
+        let reply = reply_to(tables, number, frames::read_line(line.as_bytes()));
+        texts::word(out, used, &reply.text());
         used += ANSWER;
         number = number.wrapping_add(1);
-        g = texts::gather(&mut bytes, 0, input, g.at + 1);
+        line.clear();
+        at += 1 + line.gather(&input[at + 1..]);
     }
     Block {
-        taken: g.at,
+        taken: at,
         used,
-        kept: Kept {
-            bytes,
-            len: g.len,
-            number,
-        },
+        kept: Kept { line, number },
     }
 }
 
-// What the end of an input writes: the first `used` bytes of the text.
-#[derive(Drop)]
-pub struct Ending {
-    pub text: [u8; 21],
-    pub used: usize,
-}
-
-// A last line without its newline is answered, if one is begun.
-pub fn finish(kept: Kept) -> Ending
-    ensures { Ends (take result.used result.text) kept × (result.used ≤ 21) }
+// What the end of an input answers: a last line without its newline, if one is begun.
+pub fn finish(kept: Kept) -> Option<[u8; ANSWER]>
+    ensures { Ends (ending result) kept }
 {
-    let text = frames::answer_line(28, 0, kept.number);
-    if kept.len == 0 {
-        return Ending { text, used: 0 };
+    if kept.line.len() == 0 {
+        return None;
     }
-    Ending { text, used: ANSWER }
+    let bad = Reply::Bad { line: kept.number };
+    Some(bad.text())
 }

@@ -4,5 +4,5 @@
 pub mod row;
 pub mod searches;
 
-pub use row::{ROW32, ROW64, load_row, row_fits, store_row};
+pub use row::{ROW32, ROW64, load_row, place, row_fits, store_row};
 pub use searches::{inside, linked, owned, unsound, untaken};

@@ -1,6 +1,6 @@
 // A thread's row in the tables of ids and words.
-ghost use Rattle.std.specs.Prelude.{◌≡◌, ◌+◌, ◌*◌, ◌<◌, ◌^◌, length, drop};
-ghost use Rattle.rules.specs.Sizes.{base, counter_cells, from_rows};
+ghost use Rattle.std.specs.Prelude.{◌≡◌, ◌+◌, ◌*◌, ◌<◌, ◌^◌, length, drop, slice_index};
+ghost use Rattle.rules.specs.Sizes.{base, counter_cells, from_rows, row32};
 ghost use Rattle.rules.specs.Rows.{row_at, row_fits};
 ghost use Rattle.rows.specs.CopyLaws.{stores};
 ghost use Rattle.rows.specs.RowLaws.{with_row};
@@ -15,6 +15,14 @@ use tables::{Lent, Word, item_from, put};
 pub const ROW32: usize = 21;
 
 pub const ROW64: usize = 5;
+
+// The place of a thread; 0, which is that of an idle one, past the table's end.
+#[tactic(auto, unfolding(rules::specs::Step::lent))]
+pub fn place(tables: &Lent, t: u32) -> u32
+    ensures { result ≡ slice_index (held tables.now).rows32 (t * row32) }
+{
+    item_from(tables.ids, FROM_ROWS, t as usize * ROW32)
+}
 
 // A thread's row; the words past a table's end are 0.
 #[tactic(auto, unfolding(rules::specs::Rows::row_at, rules::specs::Step::lent))]

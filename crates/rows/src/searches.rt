@@ -14,7 +14,7 @@ use tables::{Part, item_from, item_in};
 // The largest holder that a record's row may have.
 const HOLDER: u32 = THREADS + 1;
 
-// The first record row that is not taken, from 1; 0 if all are.
+// The first record row that is not taken, from 1; 0 if all are, as the rules have it (`untaken_from`).
 fn lowest(ids: &[u32]) -> u32
     ensures { result ≡ untaken_from (part from_records (4 * records) ids.now) 0 records }
 {

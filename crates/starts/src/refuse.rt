@@ -1,29 +1,25 @@
 // What a start refuses.
 ghost use Rattle.std.specs.Prelude.{◌≡◌, ◌*◌, drop};
 ghost use Rattle.rules.specs.Answers.{refusal_of};
-ghost use Rattle.rules.specs.Start.{or_else, not_owned, not_source, not_node, not_retirable, busy, refusal, refuse_of, narrow};
+ghost use Rattle.rules.specs.Start.{or_else, not_owned, not_source, not_node, not_retirable, busy, refusal, refuse_of};
 ghost use Rattle.rules.specs.Step.{part};
 ghost use Rattle.rules.specs.Sizes.{records, sources, from_sources, from_records, from_rows};
 ghost use Rattle.tables.specs.Lent.{held};
 
 use rules::answer::Refusal;
 use rules::pc::Pc;
-use rules::{FROM_ROWS, NODES, Named, NodeState, Operation, SOURCES};
-use tables::{Lent, Part, Table, item, item_from, item_in};
+use rules::{NODES, Named, NodeState, Operation, SOURCES};
+use tables::{Lent, Part, Table, address, at_in, item, item_in};
 
 // A node is narrowed after it was compared.
-pub fn cut(n: u64) -> u32
-    ensures { result ≡ narrow n }
-{
-    (n % 4294967296) as u32
-}
+pub use tables::cut;
 
 // The record is to be the thread's.
 #[tactic(auto, unfolding(rules::specs::Start::not_owned, rules::specs::Step::part))]
 fn not_owned(ids: &[u32], t: u32, rec: u32) -> Result<(), Refusal>
     ensures { refusal_of result ≡ not_owned (part from_records (4 * records) ids.now) t rec }
 {
-    let at = tables::at_in(tables::address(Named::Holder(rec)), Table::Records as u32);
+    let at = at_in(address(Named::Holder(rec)), Table::Records as u32);
     let holder = item_in(ids, Part::RECORDS, at as usize);
     if holder as u64 == t as u64 + 2 {
         Ok(())
@@ -63,7 +59,7 @@ fn not_retirable(ids: &[u32], state: &[u32], node: u64) -> Result<(), Refusal>
         return Err(Refusal::Node);
     }
     let n = cut(node);
-    let at = tables::at_in(tables::address(Named::NodeState(n)), Table::State as u32);
+    let at = at_in(address(Named::NodeState(n)), Table::State as u32);
     if item(state, at as usize) != NodeState::Live as u32 || rows::linked(ids, n) {
         Err(Refusal::NotRetirable)
     } else if rows::unsound(ids) {
@@ -116,16 +112,15 @@ fn refusal(ids: &[u32], state: &[u32], t: u32, o: Operation) -> Result<(), Refus
 }
 
 // The refusal of a start. A damaged shutdown mark comes last.
-#[tactic(auto, unfolding(rules::specs::Start::refuse_of, rules::specs::Step::lent, rules::specs::Step::part))]
+#[tactic(auto, unfolding(rules::specs::Start::refuse_of, rules::specs::Step::fetched, rules::specs::Cells::address, rules::specs::Step::lent, rules::specs::Step::part))]
 pub fn refuse(tables: &Lent, t: u32, o: Operation) -> Result<(), Refusal>
     ensures { refusal_of result ≡ refuse_of (held tables.now) t o }
 {
-    let mark = item_in(tables.ids, Part::HEADS, 2);
+    let mark = tables.fetch(address(Named::Shutdown));
     if mark == 1 || mark == 2 {
         return Err(Refusal::ShutDown);
     }
-    let place = item_from(tables.ids, FROM_ROWS, t as usize * rows::ROW32);
-    if place != Pc::Idle as u32 {
+    if rows::place(tables, t) != Pc::Idle as u32 {
         return Err(Refusal::Inside);
     }
     refusal(tables.ids, tables.state, t, o)?;

@@ -37,7 +37,7 @@ impl From<u32> for Table {
 
 // The cell of an id that is none.
 const NOWHERE: Cell = Cell {
-    table: 0,
+    table: Table::Nowhere as u32,
     at: 0,
     class: Class::NoCell,
 };
@@ -131,7 +131,7 @@ pub fn in_range(class: Class, x: u64) -> bool
     }
 }
 
-// Where the cell stands in table k; past every table's end if it is of another.
+// Where the cell stands in table k; past every table's end if it is of another. k is any number, as a cell's table is.
 pub fn at_in(c: Cell, k: u32) -> u32
     ensures { result ≡ at_in c k }
 {

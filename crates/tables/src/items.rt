@@ -1,5 +1,5 @@
 // One word of a lent table, or of a part of it, read or written by an index that may be past its end.
-ghost use Rattle.std.specs.Prelude.{◌≡◌, ◌+◌, ◌^◌, ◌<◌, take, drop, nat_lt, slice_index, slice_index_or, slice_set};
+ghost use Rattle.std.specs.Prelude.{◌≡◌, ◌+◌, ◌%◌, ◌^◌, ◌<◌, take, drop, nat_lt, slice_index, slice_index_or, slice_set};
 ghost use Rattle.base.specs.Pick.{pick};
 ghost use Rattle.rules.specs.Step.{part};
 
@@ -92,8 +92,8 @@ pub fn item_in<T: Word>(t: &[T], part: Part, at: usize) -> T
     }
 }
 
-// Whose word `at` becomes v.
-pub fn put_in<T: Word>(t: &mut [T], part: Part, at: usize, v: T)
+// A word of a part becomes v; nothing is written past the part's end.
+pub(crate) fn put_in<T: Word>(t: &mut [T], part: Part, at: usize, v: T)
     requires { part.from + part.n < 2 ^ 64 }
     ensures { t.new ≡ pick (nat_lt at part.n) (slice_set t.old (part.from + at) v) t.old }
 {
@@ -102,10 +102,20 @@ pub fn put_in<T: Word>(t: &mut [T], part: Part, at: usize, v: T)
     }
 }
 
+// Where the number of steps taken stands among the counters.
+pub const STEPS_TAKEN: u32 = 4;
+
 // A counter.
 #[tactic(auto, unfolding(rules::specs::Step::part))]
 pub fn counter(words: &[u64], at: u32) -> u64
     ensures { result ≡ slice_index (part 0 5 words.now) at }
 {
     item_in(words, Part::COUNTERS, at as usize)
+}
+
+// A content, cut to an id.
+pub fn cut(v: u64) -> u32
+    ensures { result ≡ v % 2 ^ 32 }
+{
+    (v % 4294967296) as u32
 }

@@ -12,7 +12,7 @@ ghost use Rattle.tables.specs.Tables.{number_of};
 ghost use Rattle.tables.specs.Lent.{held, AreSame};
 
 use crate::cells::{Table, address, at_in};
-use crate::items::{Part, item, item_in, put, put_in};
+use crate::items::{Part, STEPS_TAKEN, cut, item, item_in, put, put_in};
 use rules::{Cell, Class, Effect, FROM_RECORDS, RECORD_CELLS};
 
 #[derive(Drop)]
@@ -24,12 +24,12 @@ pub struct Lent<'a> {
     pub guards: &'a mut [u64],
 }
 
-// A content, cut to an id.
-fn cut(v: u64) -> u32
-    ensures { result ≡ v % 2 ^ 32 }
-{
-    (v % 4294967296) as u32
-}
+// What a step that writes nothing has for its cell.
+const NOTHING: Cell = Cell {
+    table: Table::Nowhere as u32,
+    at: 0,
+    class: Class::Anything,
+};
 
 // Where the cell stands in a table; past its end if it is of another.
 fn place(c: Cell, table: Table) -> usize
@@ -46,20 +46,6 @@ fn write_ids(ids: &mut [u32], c: Cell, v: u32)
     put_in(ids, Part::HEADS, place(c, Table::Heads), v);
     put_in(ids, Part::RECORDS, place(c, Table::Records), v);
     put_in(ids, Part::SOURCES, place(c, Table::Sources), v);
-}
-
-fn cell_if(c: Cell, writes: bool) -> Cell
-    ensures { result ≡ pick writes c nothing }
-{
-    if writes {
-        c
-    } else {
-        Cell {
-            table: Table::Nowhere as u32,
-            at: 0,
-            class: Class::Anything,
-        }
-    }
 }
 
 // Every record cell becomes 0.
@@ -86,7 +72,8 @@ fn close(ids: &mut [u32], closes: bool)
 fn tick(words: &mut [u64])
     ensures { words.new ≡ slice_set words.old 4 (plus (slice_index words.old 4) 1) }
 {
-    put(words, 4, item(words, 4).wrapping_add(1));
+    let at = STEPS_TAKEN as usize;
+    put(words, at, item(words, at).wrapping_add(1));
 }
 
 impl Lent<'_> {
@@ -124,7 +111,8 @@ impl Lent<'_> {
         ensures holds { held self.new ≡ on_cells (λ s. cells_given s c e) (held self.old) }
         ensures same { AreSame self.old self.new }
     {
-        self.write(cell_if(c, e.writes), e.put);
+        let d = if e.writes { c } else { NOTHING };
+        self.write(d, e.put);
         self.write(address(e.also), e.to);
         close(self.ids, e.closes);
         tick(self.words);

@@ -6,5 +6,5 @@ pub mod items;
 pub mod lent;
 
 pub use cells::{Table, accessed, address, at_in, in_range};
-pub use items::{Part, Word, counter, item, item_from, item_in, put};
+pub use items::{Part, STEPS_TAKEN, Word, counter, cut, item, item_from, item_in, put};
 pub use lent::Lent;

@@ -204,9 +204,11 @@ impl<const N: usize> Text<N> {
     }
 
     // The input's bytes up to its first newline; how many stand before that.
+    #[tactic(auto, using(crate::proofs::Lines::up_to_within))]
     pub fn gather(&mut self, input: &[u8]) -> usize
         ensures text { self.new ≡ take N (self.old ++ up_to input.now) }
         ensures taken { result ≡ length (up_to input.now) }
+        ensures within { result ≤ length input.now }
     {
         let g = gather(&mut self.bytes, self.len, input, 0);
         self.len = g.len;
