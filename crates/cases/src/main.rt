@@ -7,7 +7,7 @@
 // rest of a case is passed over.
 #![tactic(auto)]
 
-use replays::runner;
+use replays::{Reply, runner};
 use std::io::{Stdin, Stdout, Write};
 use streams::{End, Input};
 use tables::Lent;
@@ -39,7 +39,7 @@ fn answered(tables: &mut Lent, number: u64, line: &[u8], is_whole: bool) -> [u8;
     if is_whole {
         text
     } else {
-        runner::finish(b.kept).text
+        runner::finish(b.kept).unwrap_or(Reply::Bad { line: number }.text())
     }
 }
 

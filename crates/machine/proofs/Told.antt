@@ -1,5 +1,5 @@
 -- Every effect of the rules is told by a Result.
-use Rattle.std.proofs.Common.{ℕ, ◌≡◌, Bool, inl, inr}
+use Rattle.std.proofs.Common.{◌≡◌, Bool, inl, inr}
 use Rattle.base.specs.Pick.{pick}
 use Rattle.rules.specs.Sizes.{Settings}
 use Rattle.rules.specs.Pc.{pc_of}
@@ -9,7 +9,7 @@ use Rattle.rules.specs.declared.Cell.{Cell}
 use Rattle.rules.specs.declared.Seen.{Seen}
 use Rattle.rules.specs.declared.Effect.{Effect}
 use Rattle.rules.specs.Places.{does, effect_of}
-use Rattle.rules.specs.Step.{State, judged, look_by, look_of}
+use Rattle.rules.specs.Step.{judged}
 use Rattle.rules.specs.Every.{every, two, pick_all}
 use Rattle.machine.specs.Told.{Told}
 
@@ -48,7 +48,3 @@ module _ (g : Settings) (r : Row) (i : Seen) where
   pub judged-told : (fits : Bool) (c l : Cell) (e : Effect) → Told e → Told (judged r fits c l i e)
   unfolding judged
   judged-told fits c l e h = search (either, unsound)
-
-pub look-told : (g : Settings) (s : State) (t : ℕ) (f : Bool) (k : ℕ) (r : Row) → Told (look_of g s t f k r)
-unfolding look_of look_by
-look-told g s t f k r = judged-told g r _ _ _ _ _ (effect-told g r _)

@@ -34,6 +34,7 @@ fn main(rt: HostRuntime) {
             break;
         }
     }
-    let e = runner::finish(kept);
-    let _ = stdout.write_all(&e.text[..e.used]);
+    if let Some(last) = runner::finish(kept) {
+        let _ = stdout.write_all(&last);
+    }
 }

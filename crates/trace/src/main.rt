@@ -226,7 +226,8 @@ fn main(rt: HostRuntime) {
         trace.answer(&text[..b.used]);
         trace.report(&tables);
     }
-    let e = runner::finish(kept);
-    trace.answer(&e.text[..e.used]);
+    if let Some(last) = runner::finish(kept) {
+        trace.answer(&last);
+    }
     trace.out.flush();
 }
