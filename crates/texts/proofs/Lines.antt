@@ -1,7 +1,7 @@
 -- Where the first newline stands, and what is before it.
 use Rattle.std.proofs.lemmas.Bool.{eqb-false}
-use Rattle.std.specs.Prelude.{Bool, true, false, eqb, ℕ, zero, suc, ◌≤◌, ◌<◌, ◌≡◌, ◌≢◌, refl, List, [], ◌∷◌, length, take, min}
-use Rattle.std.proofs.Common.{arith, eqb-true, get_or, length-take-le, length-take, sym, ap, ◌∙◌}
+use Rattle.std.specs.Prelude.{Bool, true, false, eqb, ℕ, zero, suc, ◌≤◌, ◌<◌, ◌≡◌, ◌≢◌, refl, List, [], ◌∷◌, length, take}
+use Rattle.std.proofs.Common.{arith, eqb-true, get_or, length-take-le, ap, ◌∙◌}
 use Rattle.texts.specs.Lines.{up_to}
 use Rattle.texts.specs.LineLaws.{up_none, up_on}
 
@@ -22,6 +22,3 @@ up_to_first (b ∷ l) = by (eqb b 10) refl (up_to_first l)
     by : (t : Bool) → eqb b 10 ≡ t → take (length (up_to l)) l ≡ up_to l → take (length (up_to (b ∷ l))) (b ∷ l) ≡ up_to (b ∷ l)
     by true e more = rw (up_none b l (eqb-true b 10 e)) refl
     by false e more = rw (up_on b l (eqb-false b 10 e)) (ap (λ (u : List ℕ). b ∷ u) more)
-
-pub up_to_within : (l : List ℕ) → length (up_to l) ≤ length l
-up_to_within l = let e : min (length (up_to l)) (length l) ≡ length (up_to l) = sym (length-take (length (up_to l)) l) ∙ ap length (up_to_first l) in omega arith

@@ -188,6 +188,7 @@ impl<const N: usize> Text<N> {
     pub fn gather(&mut self, input: &[u8]) -> usize
         ensures text { self.new ≡ take N (self.old ++ up_to input.now) }
         ensures taken { result ≡ length (up_to input.now) }
+        ensures within { result ≤ length input.now }
     {
         let n = line_len(input);
         self.say(&input[..n]);
