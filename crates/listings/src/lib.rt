@@ -2,6 +2,7 @@
 #![tactic(auto)]
 
 use frames::Line;
+use rows::load_row;
 use rules::answer::{Answer, Outcome, Refusal};
 use rules::kind::Kind;
 use rules::pc::Pc;
@@ -10,6 +11,7 @@ use sights::saw::Saw;
 use sights::why::Why;
 use std::fmt;
 use std::fmt::Write;
+use tables::{Lent, counter};
 use texts::Text;
 use words::names;
 use words::names::{Accessed, Asked};
@@ -36,28 +38,28 @@ const ANSWER_END: usize = 64;
 
 const WORDS: usize = 65;
 
+// Two of the counters.
+const RECORD_COUNT: u32 = 0;
+
+const COUNT: u32 = 1;
+
 // How long a line of the listing and a line of numbers may be.
 const LISTED: usize = 100;
 
 const NUMBERS: usize = 320;
 
-// A line that was run: its number and its bytes, what it tells, its thread's row before and after it, what its step
-// accesses and saw, what it was answered and why it was refused, the steps that the thread's operation has taken, and
-// `count` and the record count behind it.
+// A line that was run: its number, its bytes and whether it has its newline; what it tells; its thread's row before it,
+// and what the row's step accesses; what the line was answered, and the steps that the thread's operation has taken.
 #[derive(Clone, Copy)]
 pub struct Ran<'a> {
     pub number: u64,
     pub bytes: &'a [u8],
+    pub is_whole: bool,
     pub line: Line,
-    pub before: Row,
-    pub after: Row,
+    pub row: Row,
     pub access: Access,
-    pub saw: Saw,
     pub answer: Result<Outcome, Refusal>,
-    pub why: Option<Why>,
     pub steps: u64,
-    pub count: u64,
-    pub records: u64,
 }
 
 // A node, which may be none.
@@ -140,7 +142,7 @@ impl Ran<'_> {
     // What stands to the left of the answer. What is too long for that ends with dots.
     fn question(&self) -> Text<ANSWER> {
         let mut text = Text::new();
-        if self.why.is_some() {
+        if self.answer.is_err() {
             text.put(b'*');
         }
         right(&mut text, LINE, LINE_END, self.number);
@@ -155,7 +157,7 @@ impl Ran<'_> {
                 let _ = write!(text, "{}", Asked(operation));
             }
             Line::Step { .. } => {
-                let place = Pc::from(self.before.place);
+                let place = Pc::from(self.row.place);
                 text.say(names::place(place).as_bytes());
                 text.go_to(PURPOSE);
                 text.say(names::purpose(place).as_bytes());
@@ -179,39 +181,47 @@ impl Ran<'_> {
         text
     }
 
+    // Why the line was refused.
+    fn why(&self, tables: &Lent, refusal: Refusal) -> Why {
+        match self.line {
+            Line::Bad => Why::of_bytes(self.bytes, self.is_whole),
+            Line::Start { thread, operation } => {
+                Why::of_start(tables, thread, operation, self.row, refusal)
+            }
+            Line::Step { thread, .. } => Why::of_step(thread, self.row, refusal),
+        }
+    }
+
     // What the line was answered. Of a step, where it goes on and what it saw; of a refusal that ends an operation, how
     // many steps that took.
-    fn say_answer(&self, text: &mut Text<LISTED>) -> fmt::Result {
+    fn say_answer(&self, tables: &Lent, text: &mut Text<LISTED>) -> fmt::Result {
         let steps = Steps(self.steps);
-        if let Some(why) = self.why {
-            write!(text, "REFUSED {why}")?;
-            if self.steps == 0 {
-                return Ok(());
-            }
-            return write!(text, "{steps}");
-        }
         match self.answer {
             Ok(Outcome::Stepped) => {
-                let place = names::place(Pc::from(self.after.place));
-                write!(text, "goes on to {place}")?;
+                let after = load_row(tables, thread(self.line).unwrap_or(0));
+                write!(text, "goes on to {}", names::place(Pc::from(after.place)))?;
                 match self.line {
                     Line::Step { flag: true, .. } => text.write_str(" (failure asked)"),
-                    _ => write!(text, "{}", self.saw),
+                    _ => write!(text, "{}", Saw::of(tables, self.access, self.row, after)),
                 }
             }
             Ok(Outcome::Started) => text.write_str("started"),
             Ok(Outcome::Done(value)) => {
-                let kind = Told::by_line(self.line, self.before).kind;
+                let kind = Told::by_line(self.line, self.row).kind;
                 write!(text, "done{}{steps}", Given { kind, value })
             }
             Ok(Outcome::Retry(value)) => write!(text, "retry: {} seen{steps}", Node(value)),
             Ok(Outcome::Reclaimed(value)) => write!(text, "node {value} reclaimed"),
-            Err(_) => Ok(()),
+            Err(refusal) if self.steps == 0 => {
+                write!(text, "REFUSED {}", self.why(tables, refusal))
+            }
+            Err(refusal) => write!(text, "REFUSED {}{steps}", self.why(tables, refusal)),
         }
     }
 
-    // One line of the listing.
-    pub fn listed(&self) -> Text<LISTED> {
+    // One line of the listing. A refusal changes nothing, and what a step loads it leaves, so that the tables behind the
+    // line show what it saw.
+    pub fn listed(&self, tables: &Lent) -> Text<LISTED> {
         let mut text = Text::new();
         text.say(self.question().as_bytes());
         right(
@@ -221,41 +231,46 @@ impl Ran<'_> {
             u64::from(self.numbered().number),
         );
         text.go_to(WORDS);
-        let _ = self.say_answer(&mut text);
+        let _ = self.say_answer(tables, &mut text);
         text
     }
 
-    // One line of numbers.
-    pub fn numbers(&self) -> Text<NUMBERS> {
-        let mut text = Text::new();
-        let n = self.number;
-        let thread = thread(self.line).unwrap_or(0);
+    // One line of numbers, a blank behind each.
+    pub fn numbers(&self, tables: &Lent) -> Text<NUMBERS> {
+        let told = Told::by_line(self.line, self.row);
+        let answer = self.numbered();
         let form = match self.line {
             Line::Step { .. } => 0,
             Line::Start { .. } => 1,
             Line::Bad => 2,
         };
         let (place, hazard) = match self.line {
-            Line::Step { .. } if self.why.is_none() => {
-                (self.before.place, names::hazard(self.access).unwrap_or(0))
+            Line::Step { .. } if self.answer.is_ok() => {
+                (self.row.place, names::hazard(self.access).unwrap_or(0))
             }
-            Line::Step { .. } => (self.before.place, 0),
+            Line::Step { .. } => (self.row.place, 0),
             _ => (0, 0),
         };
-        let Told {
-            kind,
-            rec,
-            source,
-            node,
-        } = Told::by_line(self.line, self.before);
-        let Answer { number, value } = self.numbered();
-        let count = self.count;
-        let records = self.records;
-        let _ = write!(text, "{n} {thread} {form} {kind} {place} ");
-        let _ = write!(
-            text,
-            "{rec} {source} {node} {hazard} {number} {value} {count} {records}"
-        );
+        let numbers = [
+            self.number,
+            u64::from(thread(self.line).unwrap_or(0)),
+            form,
+            u64::from(told.kind),
+            u64::from(place),
+            u64::from(told.rec),
+            u64::from(told.source),
+            told.node,
+            u64::from(hazard),
+            u64::from(answer.number),
+            answer.value,
+            counter(tables.words, COUNT),
+            counter(tables.words, RECORD_COUNT),
+        ];
+        let mut text = Text::new();
+        for x in numbers {
+            text.number(x);
+            text.put(b' ');
+        }
         text
     }
 }

@@ -3,6 +3,7 @@ use crate::options::Options;
 use listings::Ran;
 use std::io::Stdout;
 use streams::Output;
+use tables::Lent;
 use texts::Text;
 use words::told::thread;
 
@@ -126,13 +127,13 @@ impl Lister {
     }
 
     // A line that was run is written.
-    pub fn report(&mut self, ran: &Ran) {
+    pub fn report(&mut self, ran: &Ran, tables: &Lent) {
         if self.is_shown(ran) {
             if self.options.data {
-                self.emit(ran.numbers().as_bytes());
+                self.emit(ran.numbers(tables).as_bytes());
             } else {
                 self.head();
-                self.emit(ran.listed().as_bytes());
+                self.emit(ran.listed(tables).as_bytes());
             }
         }
         self.number = self.number.wrapping_add(1);

@@ -17,18 +17,11 @@ use listings::Ran;
 use replays::Reply;
 use rows::load_row;
 use rules::answer::{Outcome, Refusal};
-use sights::saw::Saw;
-use sights::why::Why;
 use std::io::Stdin;
 use streams::{End, Input};
-use tables::{Lent, counter};
+use tables::Lent;
 use texts::Text;
 use words::told::thread;
-
-// The words of a counter's number in the table of words.
-const RECORD_COUNT: u32 = 0;
-
-const COUNT: u32 = 1;
 
 // The steps that a thread's operation has taken, this line's among them; 0 where the line was none.
 fn counted(steps: &mut [u64; 16], line: Line, answer: Result<Outcome, Refusal>) -> u64 {
@@ -52,8 +45,7 @@ fn counted(steps: &mut [u64; 16], line: Line, answer: Result<Outcome, Refusal>) 
     }
 }
 
-// A line of a replay is run. A refusal changes nothing, and what a step loads it leaves, so that the tables behind the
-// line show what it saw.
+// A line of a replay is run.
 fn run_line<'a>(
     tables: &mut Lent,
     steps: &mut [u64; 16],
@@ -62,37 +54,20 @@ fn run_line<'a>(
     is_whole: bool,
 ) -> Ran<'a> {
     let line = replays::line_in(bytes, is_whole);
-    let of = thread(line).unwrap_or(0);
-    let before = load_row(tables, of);
-    let access = places::access(before);
-    let (answer, why) = match replays::reply_to(tables, number, line) {
-        Reply::Thread {
-            answer: Ok(outcome),
-            ..
-        } => (Ok(outcome), None),
-        Reply::Thread {
-            answer: Err(refusal),
-            ..
-        } => { (Err(refusal), Some(Why::of(tables, line, before, refusal))) }
-        Reply::Bad { .. } => (
-            Err(Refusal::NoOperation),
-            Some(Why::of_bytes(bytes, is_whole)),
-        ),
+    let row = load_row(tables, thread(line).unwrap_or(0));
+    let answer = match replays::reply_to(tables, number, line) {
+        Reply::Thread { answer, .. } => answer,
+        Reply::Bad { .. } => Err(Refusal::NoOperation),
     };
-    let after = load_row(tables, of);
     Ran {
         number,
         bytes,
+        is_whole,
         line,
-        before,
-        after,
-        access,
-        saw: Saw::of(tables, access, before, after),
+        row,
+        access: places::access(row),
         answer,
-        why,
         steps: counted(steps, line, answer),
-        count: counter(tables.words, COUNT),
-        records: counter(tables.words, RECORD_COUNT),
     }
 }
 
@@ -128,7 +103,7 @@ fn run(input: &mut Input<Stdin, 16384>, lister: &mut Lister) -> bool {
             bytes => {
                 let is_whole = end == End::Newline;
                 let ran = run_line(&mut tables, &mut steps, lister.number(), bytes, is_whole);
-                lister.report(&ran);
+                lister.report(&ran, &tables);
             }
         }
     }

@@ -1,6 +1,5 @@
 // Why a line was refused. Of a step that is answered NotRetirable or NoRecords, which ends its operation, the row as it
 // was before says all.
-use frames::Line;
 use rows::load_row;
 use rules::answer::Refusal;
 use rules::pc::Pc;
@@ -110,18 +109,8 @@ fn cell(tables: &Lent, c: Named) -> u64 {
 }
 
 impl Why {
-    // Why a line that tells this was refused.
-    pub fn of(tables: &Lent, line: Line, row: Row, refusal: Refusal) -> Why {
-        match line {
-            Line::Step { thread, .. } => Why::of_step(thread, row, refusal),
-            Line::Start { thread, operation } => Why::of_start(
-                tables, thread, operation, row, refusal,
-            ),
-            Line::Bad => Why::WrongField,
-        }
-    }
-
-    fn of_step(thread: u32, row: Row, refusal: Refusal) -> Why {
+    // Why a step was refused.
+    pub fn of_step(thread: u32, row: Row, refusal: Refusal) -> Why {
         match refusal {
             Refusal::Thread => Why::NoThread(thread),
             Refusal::StepLimit => Why::StepLimit,
@@ -133,7 +122,8 @@ impl Why {
         }
     }
 
-    fn of_start(tables: &Lent, thread: u32, o: Operation, row: Row, refusal: Refusal) -> Why {
+    // Why a start was refused.
+    pub fn of_start(tables: &Lent, thread: u32, o: Operation, row: Row, refusal: Refusal) -> Why {
         let told = Told::from(o);
         match refusal {
             Refusal::Thread => Why::NoThread(thread),

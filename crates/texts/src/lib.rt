@@ -33,13 +33,6 @@ pub fn word(out: &mut [u8], at: usize, bytes: &[u8]) -> usize
     fill(out, at, bytes)
 }
 
-// How much of a line the buffer holds, and where its newline stands in the input; the input's end if there is none.
-#[derive(Drop)]
-pub struct Gathered {
-    pub len: usize,
-    pub at: usize,
-}
-
 // Where the first newline stands.
 fn newline(input: &[u8]) -> Option<usize>
     ensures { MatchOption result (EachIndex input.now (λ k. slice_index input.now k ≢ 10)) (λ i. (i < length input.now) × (slice_index input.now i ≡ 10) × ((k : ℕ) → k < i → slice_index input.now k ≢ 10)) }
@@ -54,19 +47,6 @@ fn line_len(bytes: &[u8]) -> usize
     ensures within { result ≤ length bytes.now }
 {
     newline(bytes).unwrap_or(bytes.len())
-}
-
-// The input's bytes from `at` up to the next newline go behind the first `len` of the buffer, as far as there is room.
-pub fn gather(line: &mut [u8], len: usize, input: &[u8], at: usize) -> Gathered
-    ensures { (take result.len line.new ≡ take (length line.old) (take len line.old ++ up_to (drop at input.now))) × (result.at ≡ at + length (up_to (drop at input.now))) × (result.len ≤ length line.old) }
-{
-    let held = len.min(line.len());
-    let rest = &input[at.min(input.len())..];
-    let n = line_len(rest);
-    Gathered {
-        len: fill(line, held, &rest[..n]),
-        at: at + n,
-    }
 }
 
 // The decimal digits of x, at the end of the array; where they begin.
@@ -146,10 +126,14 @@ impl<const N: usize> Text<N> {
         self.len = fill(&mut self.bytes, self.len, words);
     }
 
+    #[tactic(auto, using(crate::specs::LineLaws::kept_more, crate::specs::LineLaws::kept_full))]
     pub fn put(&mut self, byte: u8)
         ensures { self.new ≡ take N (self.old ++ byte ∷ []) }
     {
-        self.say(&[byte]);
+        if self.len < N {
+            self.bytes[self.len] = byte;
+            self.len += 1;
+        }
     }
 
     pub fn number(&mut self, x: u64)
@@ -200,15 +184,15 @@ impl<const N: usize> Text<N> {
     }
 
     // The input's bytes up to its first newline; how many stand before that.
-    #[tactic(auto, using(crate::proofs::Lines::up_to_within))]
+    #[tactic(auto, using(crate::proofs::Lines::up_to_first))]
     pub fn gather(&mut self, input: &[u8]) -> usize
         ensures text { self.new ≡ take N (self.old ++ up_to input.now) }
         ensures taken { result ≡ length (up_to input.now) }
         ensures within { result ≤ length input.now }
     {
-        let g = gather(&mut self.bytes, self.len, input, 0);
-        self.len = g.len;
-        g.at
+        let n = line_len(input);
+        self.say(&input[..n]);
+        n
     }
 }
 
