@@ -20,8 +20,8 @@ def short(e):
 # Whether a promise leaves one answer and one content: not if it is no equation but for bounds, or is one of a field, of the
 # front of a buffer, or of what `standing` counts of what is kept.
 def one(p):
-    said=[c.strip('()') for c in p.split(' × ') if '≤' not in c]
-    open_=[c for c in said if '≡' not in c or re.match(r'take |result\.',c) or re.search(r'\bstanding\b',c)]
+    said=[c.strip('()') for c in re.split(' × | and ',p) if '≤' not in c]
+    open_=[c for c in said if '≡' not in c or '→' in c or re.match(r'take |length |result\.',c) or re.search(r'\bstanding\b',c)]
     return 'yes' if said and not open_ else 'part' if p else 'none'
 for c in order:
     lib=f'crates/{c}/src/lib.rt'
