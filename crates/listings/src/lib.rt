@@ -43,10 +43,8 @@ const RECORD_COUNT: u32 = 0;
 
 const COUNT: u32 = 1;
 
-// How long a line of the listing and a line of numbers may be.
+// How long a line of the listing may be.
 const LISTED: usize = 100;
-
-const NUMBERS: usize = 320;
 
 // A line that was run: its number, its bytes and whether it has its newline; what it tells; its thread's row before it,
 // and what the row's step accesses; what the line was answered, and the steps that the thread's operation has taken.
@@ -235,8 +233,8 @@ impl Ran<'_> {
         text
     }
 
-    // One line of numbers, a blank behind each.
-    pub fn numbers(&self, tables: &Lent) -> Text<NUMBERS> {
+    // One line of numbers.
+    pub fn number_line<const N: usize>(&self, tables: &Lent, text: &mut Text<N>) {
         let told = Told::by_line(self.line, self.row);
         let answer = self.numbered();
         let form = match self.line {
@@ -251,8 +249,7 @@ impl Ran<'_> {
             Line::Step { .. } => (self.row.place, 0),
             _ => (0, 0),
         };
-        let numbers = [
-            self.number,
+        let others = [
             u64::from(thread(self.line).unwrap_or(0)),
             form,
             u64::from(told.kind),
@@ -266,11 +263,10 @@ impl Ran<'_> {
             counter(tables.words, COUNT),
             counter(tables.words, RECORD_COUNT),
         ];
-        let mut text = Text::new();
-        for x in numbers {
-            text.number(x);
+        text.number(self.number);
+        for x in others {
             text.put(b' ');
+            text.number(x);
         }
-        text
     }
 }

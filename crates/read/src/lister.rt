@@ -130,7 +130,10 @@ impl Lister {
     pub fn report(&mut self, ran: &Ran, tables: &Lent) {
         if self.is_shown(ran) {
             if self.options.data {
-                self.emit(ran.numbers(tables).as_bytes());
+                self.out.room(ROOM);
+                ran.number_line(tables, &mut self.out.text);
+                self.out.text.put(b'\n');
+                self.is_begun = true;
             } else {
                 self.head();
                 self.emit(ran.listed(tables).as_bytes());

@@ -3,7 +3,7 @@ use Rattle.std.specs.Prelude.{ℕ, zero, suc, ◌+◌, ◌-◌, ◌/◌, ◌%◌
 use Rattle.std.proofs.Common.{arith, append_assoc, ap, sym, ◌∙◌}
 use Rattle.std.proofs.lemmas.List.{drop-set}
 use borrow.Author.Tests.{lt-ltb, le-ltb}
-use Rattle.texts.specs.Texts.{width_of, digits_of}
+use Rattle.texts.specs.Texts.{width_of, digits_of, decimal_of}
 
 abbrev pub ending : ℕ → ℕ → List ℕ → List ℕ
 ending k x written = digits_of (width_of k x) x ++ written
@@ -16,6 +16,10 @@ ending_last : (k x : ℕ) (written : List ℕ) → x < 10 → ending k x written
 unfolding width_of digits_of
 ending_last zero x written h = refl
 ending_last (suc k) x written h = rw (lt-ltb x 10 h) refl
+
+pub decimal_digit : (x : ℕ) → x < 10 → decimal_of x ≡ (48 + x) ∷ []
+unfolding width_of digits_of
+decimal_digit x h = let e : x % 10 ≡ x = omega (arith, h) in rw (lt-ltb x 10 h, e) refl
 
 -- one more digit is written, in front of those from at on
 module _ (l : List ℕ) (at x : ℕ) (h : 0 < at) (q : at ≤ length l) where

@@ -54,17 +54,15 @@ fn write_digits(x: u64, out: &mut [u8; 20]) -> usize
     ensures within { result ≤ 20 }
     ensures value { drop result out.new ≡ decimal_of x }
 {
-    let mut at = 20usize;
     let mut rest = x;
-    while 0 < at {
-        at -= 1;
+    for at in (0..20).rev() {
         out[at] = b'0' + (rest % 10) as u8;
         rest /= 10;
         if rest == 0 {
             return at;
         }
     }
-    at
+    0
 }
 
 // A text of at most N bytes, which is written at its end. What finds no room is cut. It begins as N blanks, and its end
@@ -136,9 +134,14 @@ impl<const N: usize> Text<N> {
         }
     }
 
+    #[tactic(auto, using(crate::proofs::Digits::decimal_digit))]
     pub fn number(&mut self, x: u64)
         ensures { self.new ≡ take N (self.old ++ decimal_of x) }
     {
+        // Most numbers of a listing have one digit.
+        if x < 10 {
+            return self.put(b'0' + x as u8);
+        }
         let mut digits = [0u8; 20];
         let at = write_digits(x, &mut digits);
         self.say(&digits[at..]);

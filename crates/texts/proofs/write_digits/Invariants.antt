@@ -11,6 +11,3 @@ invariant-loop-at l = record {
   more : 0 < l.at → decimal_of l.x ≡ ending (l.at - 1) l.rest (drop l.at l.out);
   all : l.at ≡ 0 → decimal_of l.x ≡ drop l.at l.out;
 }
-
-abbrev pub decreases-loop-at : goal.decreases-loop-at
-decreases-loop-at l = l.at
