@@ -229,6 +229,7 @@ impl Ran<'_> {
             u64::from(self.numbered().number),
         );
         text.go_to(WORDS);
+        // A text takes all that is written to it.
         let _ = self.say_answer(tables, &mut text);
         text
     }

@@ -13,7 +13,8 @@ const ROOM: usize = 1024;
 // How many characters of a comment or a title are written.
 const CHARACTERS: usize = 100;
 
-// The output; what is asked for of the replay, and its next line's number; whether the replay's heading is written, and
+// Over standard output, since a struct that owns any writer would owe that it is not too large. The output; what is
+// asked for of the replay, and its next line's number; whether the replay's heading is written, and
 // whether anything is.
 #[derive(Drop)]
 pub struct Lister {

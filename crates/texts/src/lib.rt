@@ -9,7 +9,8 @@ ghost use Rattle.texts.specs.Texts.{decimal_of, signed_of, line_of, signed_line_
 use std::fmt;
 use std::marker::Model;
 
-// As many of the bytes as there is room for are written from at on; the index after them.
+// As many of the bytes as there is room for are written from at on; the index after them. By an index, since a replay's
+// answers go into a slice that its caller lends.
 #[tactic(auto, using(crate::proofs::Fills::put_in_place))]
 pub fn fill(out: &mut [u8], at: usize, bytes: &[u8]) -> usize
     ensures written { out.new ≡ sets out.old at (take (length out.old - at) bytes.now) }

@@ -3,7 +3,7 @@ use frames::Line;
 use rules::kind::Kind;
 use rules::{Operation, Row};
 
-// The operation's kind in a frame, and the record, source and node that it names; 0 for none.
+// The operation's kind in a frame, as a row holds it, and the record, source and node that it names; 0 for none.
 #[derive(Clone, Copy)]
 pub struct Told {
     pub kind: u32,
