@@ -17,13 +17,13 @@ use rules::{COUNTER_CELLS, Cell, Effect, FROM_ROWS, NODES, STEPS, THREADS};
 use tables::{Lent, STEPS_TAKEN, accessed, counter};
 
 // The sizes of the tables.
-const IDS: usize = FROM_ROWS + ROW32 * THREADS as usize;
+pub const IDS: usize = FROM_ROWS + ROW32 * THREADS as usize;
 
-const NODE_CELLS: usize = NODES as usize;
+pub const NODE_CELLS: usize = NODES as usize;
 
-const SUMS: usize = COUNTER_CELLS + ROW64 * THREADS as usize;
+pub const SUMS: usize = COUNTER_CELLS + ROW64 * THREADS as usize;
 
-const GUARD_WORDS: usize = WORDS * THREADS as usize;
+pub const GUARD_WORDS: usize = WORDS * THREADS as usize;
 
 // Whether the tables have their sizes. It is promised for any five lengths, also of tables that nobody lends.
 pub fn sized(ids: usize, next: usize, state: usize, words: usize, guards: usize) -> bool
