@@ -7,7 +7,7 @@ ghost use Rattle.rules.specs.Places.{does};
 use effects::{also_stores, becomes, damaged, ends, finishes, stores};
 use rules::answer::Refusal;
 use rules::pc::Pc;
-use rules::{Effect, Named, Row, Seen};
+use rules::{Effect, Holder, Named, Row, Seen};
 
 // A1: load `head_available`; locked, again; null, a new record.
 pub fn a1(r: Row, i: Seen) -> Effect
@@ -68,7 +68,7 @@ pub fn a5(r: Row, i: Seen) -> Effect
 pub fn a6(r: Row, i: Seen) -> Effect
     ensures { result ≡ does base Pc.A6 r i }
 {
-    let held = i.thread as u64 + 2;
+    let held = Holder::Thread(i.thread).number();
     also_stores(Named::Holder(r.rec), held, finishes(r.rec as u64))
 }
 
@@ -84,7 +84,11 @@ pub fn n1(r: Row, i: Seen) -> Effect
         next: i.v,
         ..r.go_to(Pc::N2)
     };
-    also_stores(Named::Holder(i.untaken), 1, becomes(taken))
+    also_stores(
+        Named::Holder(i.untaken),
+        Holder::Nobody.number(),
+        becomes(taken),
+    )
 }
 
 // N2: weak exchange of the head; the record's `next` is written, won or lost.
@@ -104,7 +108,7 @@ pub fn n2(r: Row, i: Seen) -> Effect
 pub fn n3(r: Row, i: Seen) -> Effect
     ensures { result ≡ does base Pc.N3 r i }
 {
-    let held = i.thread as u64 + 2;
+    let held = Holder::Thread(i.thread).number();
     let owned = also_stores(Named::Holder(r.rec), held, finishes(r.rec as u64));
     stores(i.x.wrapping_add(1), owned)
 }

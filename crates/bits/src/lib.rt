@@ -19,6 +19,7 @@ pub fn is_guarded(set: &[u64], n: u32) -> bool
     (word >> (bit & 63)) & 1 == 1
 }
 
+// By an index under a test: std's `get_mut` says nothing of what the slice ends as.
 #[tactic(auto, unfolding(rules::specs::Words::guarded_also))]
 pub fn guard(set: &mut [u64], n: u32)
     ensures { set.new ≡ guarded_also set.old n }

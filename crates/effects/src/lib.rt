@@ -6,7 +6,7 @@ ghost use Rattle.rules.specs.Answers.{number_of, answer_of};
 ghost use Rattle.rules.specs.Places.{answers, becomes, finishes, retry, ends, damaged, stores, also_stores, clears_guards, guarding, reclaims, closing};
 
 use rules::answer::{Answer, Outcome, Refusal};
-use rules::{Effect, Guards, Mark, Named, Row};
+use rules::{Effect, Guards, Mark, Named, NodeState, Row};
 
 // The step is answered, and leaves the thread this row.
 pub fn answers(number: u32, value: u64, row: Row) -> Effect
@@ -90,12 +90,15 @@ pub fn also_stores(cell: Named, to: u64, e: Effect) -> Effect
     }
 }
 
-// Node n is reclaimed: its row becomes 0.
+// The node is reclaimed: its `next`, which is the step's cell, and its state become 0.
 pub fn reclaims(node: u32, row: Row) -> Effect
     ensures { result ≡ reclaims node row }
 {
     let gone = answered(Ok(Outcome::Reclaimed(u64::from(node))), row);
-    stores(0, also_stores(Named::NodeState(node), 0, gone))
+    stores(
+        0,
+        also_stores(Named::NodeState(node), NodeState::Free as u64, gone),
+    )
 }
 
 pub fn clears_guards(row: Row) -> Effect

@@ -29,7 +29,7 @@ pub struct Fields {
     pub c: u64,
 }
 
-// What a byte is worth as a digit, 16 if it is none.
+// What a byte is worth as a digit, 16 if it is none, as the rules of frames have it.
 #[tactic(auto, unfolding(crate::specs::Hex::digit_of))]
 fn digit(b: u8) -> u64
     ensures { result ≡ digit_of b }
@@ -44,13 +44,7 @@ fn digit(b: u8) -> u64
 fn all_digits(bytes: &[u8]) -> bool
     ensures { result ≡ all_digits bytes.now }
 {
-    for b in bytes {
-        let d = digit(*b);
-        if 16 <= d {
-            return false;
-        }
-    }
-    true
+    bytes.iter().all(|b| digit(*b) < 16)
 }
 
 // The number of these digits.
@@ -78,7 +72,7 @@ fn hex(d: u64) -> u8
     }
 }
 
-// The last n digits of x are written from at on.
+// The last n digits of x are written from at on. An iterator over the part would not say what becomes of the rest.
 fn put(out: &mut [u8], at: usize, n: usize, x: u64)
     requires { at + n ≤ length out.old }
     ensures { out.new ≡ sets out.old at (digits_of n x) }

@@ -16,7 +16,7 @@ use machine::step::step;
 use rules::answer::{Answer, Outcome, Refusal};
 use tables::Lent;
 
-// What comes back: an answer's number and value.
+// What comes back: an answer's number and value, by numbers since C reads it.
 #[repr(C)]
 #[derive(Drop)]
 pub struct Reply {

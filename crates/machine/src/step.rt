@@ -91,9 +91,9 @@ fn told(e: Effect) -> Result<Outcome, Refusal>
         2 => Ok(Outcome::Done(e.value)),
         3 => Ok(Outcome::Retry(e.value)),
         4 => Ok(Outcome::Reclaimed(e.value)),
-        25 => Err(Refusal::NotRetirable),
-        26 => Err(Refusal::NoRecords),
-        29 => Err(Refusal::OutOfRange),
+        n if n == Refusal::NotRetirable as u32 => Err(Refusal::NotRetirable),
+        n if n == Refusal::NoRecords as u32 => Err(Refusal::NoRecords),
+        n if n == Refusal::OutOfRange as u32 => Err(Refusal::OutOfRange),
         _ => unreachable!(),
     }
 }

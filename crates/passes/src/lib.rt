@@ -90,7 +90,7 @@ pub fn examined(r: Row, rest: u32) -> Row
     } else if r.reclaimable != 0 {
         r.go_to(Pc::Reclaim)
     } else {
-        examine_from(r, r.shard % SHARDS + 1)
+        examine_from(r, r.shard_in() + 1)
     }
 }
 
@@ -110,7 +110,7 @@ pub fn reclaimed(r: Row, rest: u32) -> Row
     ensures { result ≡ after_free base rest r }
 {
     if rest == 0 {
-        examine_from(r, r.shard % SHARDS + 1)
+        examine_from(r, r.shard_in() + 1)
     } else {
         r
     }
@@ -121,7 +121,7 @@ pub fn reclaimed(r: Row, rest: u32) -> Row
 pub fn shut_next(r: Row) -> Row
     ensures { result ≡ shut_next base r }
 {
-    match r.shard % SHARDS + 1 {
+    match r.shard_in() + 1 {
         SHARDS => r.go_to(Pc::S3),
         shard => Row {
             shard,

@@ -7,13 +7,13 @@ ghost use Rattle.rules.specs.Sizes.{base};
 ghost use Rattle.rules.specs.Rows.{first};
 
 use rules::pc::Pc;
-use rules::{Access, Effect, Named, Row, SHARDS, Seen};
+use rules::{Access, Effect, Named, Row, Seen};
 
 // The first stolen node of the row's shard.
 pub fn first(r: Row) -> u32
     ensures { result ≡ first r }
 {
-    r.stolen[(r.shard % SHARDS) as usize]
+    r.first()
 }
 
 // The access that a row's step makes.
@@ -58,7 +58,7 @@ pub fn access(r: Row) -> Access
         Pc::Steal => Access::Update(Named::ShardHead(r.shard)),
         Pc::H1 => Access::Load(Named::RecordHead),
         Pc::H2 => Access::Load(Named::Hazard(r.rec)),
-        Pc::Examine => Access::Private(Named::NodeNext(first(r))),
+        Pc::Examine => Access::Private(Named::NodeNext(r.first())),
         Pc::Reclaim => Access::Private(Named::NodeNext(r.reclaimable)),
         Pc::Empty => Access::Load(Named::ShardHead(r.shard)),
         Pc::Push1 => Access::Load(Named::ShardHead(0)),
@@ -72,7 +72,7 @@ pub fn access(r: Row) -> Access
     }
 }
 
-// The cell that it reads beside it; the arm for the rest stands for 45 places that read none.
+// The cell that it reads beside it. The last arm is for all places that read none: their names would say nothing.
 #[tactic(auto, using(crate::proofs::Numbers::code_of), unfolding(rules::specs::Places::follow_of))]
 pub fn follow(r: Row, untaken: u32) -> Named
     ensures { result ≡ follow_of r untaken }

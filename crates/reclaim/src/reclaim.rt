@@ -23,7 +23,7 @@ fn stealing(r: Row, v: u32) -> Row
     ensures { result ≡ stealing v r }
 {
     let mut stolen = r.stolen;
-    stolen[(r.shard % SHARDS) as usize] = v;
+    stolen[r.shard_in() as usize] = v;
     Row { stolen, ..r }
 }
 
@@ -32,7 +32,7 @@ pub fn steal(r: Row, i: Seen) -> Effect
     ensures { result ≡ does base Pc.Steal r i }
 {
     let taken = stealing(r, i.v);
-    let next = r.shard % SHARDS + 1;
+    let next = r.shard_in() + 1;
     let on = if next != SHARDS {
         Row {
             shard: next,
@@ -78,7 +78,7 @@ pub fn h2(r: Row, i: Seen) -> Effect
 pub fn examine(r: Row, i: Seen) -> Effect
     ensures { result ≡ does base Pc.Examine r i }
 {
-    let node = r.stolen[(r.shard % SHARDS) as usize];
+    let node = r.first();
     let rest = stealing(r, i.v);
     if i.guarded {
         let kept = Row {
@@ -112,7 +112,7 @@ pub fn reclaim(r: Row, i: Seen) -> Effect
 pub fn empty(r: Row, i: Seen) -> Effect
     ensures { result ≡ does base Pc.Empty r i }
 {
-    let next = r.shard % SHARDS + 1;
+    let next = r.shard_in() + 1;
     if i.v != 0 {
         becomes(emptied(Row {
             done: Done::Left as u32,

@@ -30,7 +30,8 @@ pub fn begun(number: u64) -> Kept
     }
 }
 
-// The lines of a block are run, and their answers are put at the front of `out`, until there is no room for one more.
+// The lines of a block are run, and their answers are put at the front of `out`, until there is no room for one more: a
+// loop from newline to newline, which an iterator over lines could not leave where the room ends.
 pub fn run_block(tables: &mut Lent, kept: Kept, input: &[u8], out: &mut [u8]) -> Block
     ensures block { left out.new result.used result.taken (standing (held tables.new) result.kept) ≡ block_of base (standing (held tables.old) kept) input.now out.old }
     ensures room { result.used ≤ length out.new }

@@ -8,7 +8,7 @@ ghost use Rattle.tables.specs.Lent.{held, AreSame};
 
 use rules::kind::Kind;
 use rules::pc::Pc;
-use rules::{COUNTER_CELLS, FROM_ROWS, NODES, RECORDS, Row, SHARDS, SOURCES};
+use rules::{COUNTER_CELLS, Done, FROM_ROWS, NODES, RECORDS, Row, SHARDS, SOURCES};
 use tables::{Lent, Word, item_from, put};
 
 // The words of a row in each of its tables.
@@ -65,7 +65,7 @@ pub fn load_row(tables: &Lent, t: u32) -> Row
     }
 }
 
-// The words ws are stored from b on.
+// The words ws are stored from b on, as far as the table goes; `copy_from_slice` would want all of them inside it.
 fn put_all<T: Word>(t: &mut [T], b: usize, ws: &[T])
     requires { b + length ws.now < 2 ^ 64 }
     ensures { t.new ≡ stores t.old b ws.now }
@@ -123,7 +123,7 @@ const MOST: [u32; ROW32] = [
     NODES,
     NODES,
     NODES,
-    2,
+    Done::Empty as u32,
     NODES,
     NODES,
     NODES,

@@ -11,7 +11,7 @@ use rules::{
 };
 use tables::{Part, item_from, item_in};
 
-// The largest holder that a record's row may have.
+// The largest holder that a record's row may have; 0 is an unused row's.
 const HOLDER: u32 = THREADS + 1;
 
 // The first record row that is not taken, from 1; 0 if all are, as the rules have it (`untaken_from`).

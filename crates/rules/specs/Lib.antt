@@ -11,3 +11,4 @@ pub mod Facts
 pub mod Answers
 pub mod Kind
 pub mod Every
+pub mod Holder

@@ -44,6 +44,29 @@ pub enum NodeState {
     Waiting,
 }
 
+// Who holds a record, which its cell holds as a number: its row is unused, it is used and nobody's, or a thread's.
+#[derive(Clone, Copy, PartialEq, Eq)]
+pub enum Holder {
+    Unused,
+    Nobody,
+    Thread(u32),
+}
+
+impl Holder {
+    ghost use Rattle.std.specs.Prelude.{◌≡◌};
+    ghost use Rattle.rules.specs.Holder.{held_by};
+
+    pub fn number(self) -> u64
+        ensures { result ≡ held_by self }
+    {
+        match self {
+            Holder::Unused => 0,
+            Holder::Nobody => 1,
+            Holder::Thread(t) => u64::from(t) + 2,
+        }
+    }
+}
+
 // What the shutdown's cell holds.
 #[derive(Clone, Copy, PartialEq, Eq)]
 pub enum Mark {
@@ -111,7 +134,7 @@ pub struct Row {
 
 impl Row {
     ghost use Rattle.std.specs.Prelude.{◌≡◌};
-    ghost use Rattle.rules.specs.Rows.{go_to};
+    ghost use Rattle.rules.specs.Rows.{go_to, shard_in, first};
 
     // The row of a thread that is inside no operation.
     pub const IDLE: Row = Row {
@@ -135,6 +158,20 @@ impl Row {
         due: 0,
         clock: 0,
     };
+
+    // The row's shard; a row whose shard is out of range is refused as damaged in any case.
+    pub fn shard_in(self) -> u32
+        ensures { result ≡ shard_in self }
+    {
+        self.shard % SHARDS
+    }
+
+    // The first stolen node of its shard.
+    pub fn first(self) -> u32
+        ensures { result ≡ first self }
+    {
+        self.stolen[self.shard_in() as usize]
+    }
 
     // The row of a thread that goes on at a place.
     pub fn go_to(self, p: Pc) -> Row

@@ -8,7 +8,7 @@ ghost use Rattle.rules.specs.Start.{begins, entry, fresh_at, narrow, of_null};
 use crate::refuse::cut;
 use rules::kind::Kind;
 use rules::pc::Pc;
-use rules::{Entry, Named, Operation, Row};
+use rules::{Entry, Holder, Mark, Named, NodeState, Operation, Row};
 
 // The row of an operation at its first place.
 fn fresh(k: Kind, first: Pc) -> Row
@@ -45,7 +45,7 @@ pub fn begin(o: Operation) -> Entry
                 ..fresh(Kind::Release, Pc::D1)
             },
             cell: Named::Holder(rec),
-            put: 1,
+            put: Holder::Nobody.number(),
         },
         Operation::Protect { rec, source } => quietly(Row {
             rec,
@@ -87,7 +87,7 @@ pub fn begin(o: Operation) -> Entry
                     ..fresh(Kind::Retire, Pc::T1)
                 },
                 cell: Named::NodeState(lone),
-                put: 2,
+                put: NodeState::Waiting as u64,
             }
         }
         Operation::Eager => quietly(fresh(Kind::Eager, Pc::B1)),
@@ -95,7 +95,7 @@ pub fn begin(o: Operation) -> Entry
         Operation::Shutdown => Entry {
             row: fresh(Kind::Shutdown, Pc::S1),
             cell: Named::Shutdown,
-            put: 1,
+            put: Mark::Closing as u64,
         },
     }
 }

@@ -8,20 +8,20 @@ ghost use Rattle.tables.specs.Lent.{held};
 
 use rules::answer::Refusal;
 use rules::pc::Pc;
-use rules::{NODES, Named, NodeState, Operation, SOURCES};
+use rules::{Holder, Mark, NODES, Named, NodeState, Operation, SOURCES};
 use tables::{Lent, Part, Table, address, at_in, item, item_in};
 
 // A node is narrowed after it was compared.
 pub use tables::cut;
 
-// The record is to be the thread's.
+// The record is to be the thread's. Its cell is read by its place: the rules look an id that is none up there too.
 #[tactic(auto, unfolding(rules::specs::Start::not_owned, rules::specs::Step::part))]
 fn not_owned(ids: &[u32], t: u32, rec: u32) -> Result<(), Refusal>
     ensures { refusal_of result ≡ not_owned (part from_records (4 * records) ids.now) t rec }
 {
     let at = at_in(address(Named::Holder(rec)), Table::Records as u32);
     let holder = item_in(ids, Part::RECORDS, at as usize);
-    if holder as u64 == t as u64 + 2 {
+    if holder as u64 == Holder::Thread(t).number() {
         Ok(())
     } else {
         Err(Refusal::Record)
@@ -117,14 +117,14 @@ pub fn refuse(tables: &Lent, t: u32, o: Operation) -> Result<(), Refusal>
     ensures { refusal_of result ≡ refuse_of (held tables.now) t o }
 {
     let mark = tables.fetch(address(Named::Shutdown));
-    if mark == 1 || mark == 2 {
+    if mark == Mark::Closing as u64 || mark == Mark::Closed as u64 {
         return Err(Refusal::ShutDown);
     }
     if rows::place(tables, t) != Pc::Idle as u32 {
         return Err(Refusal::Inside);
     }
     refusal(tables.ids, tables.state, t, o)?;
-    if mark > 2 {
+    if mark > Mark::Closed as u64 {
         Err(Refusal::OutOfRange)
     } else {
         Ok(())

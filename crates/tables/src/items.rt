@@ -31,7 +31,7 @@ pub fn item<T: Word>(t: &[T], at: usize) -> T
     t.get(at).copied().unwrap_or(T::ZERO)
 }
 
-// A word of a table becomes v; nothing is written past its end.
+// A word of a table becomes v; nothing is written past its end. (`get_mut` says nothing of what the slice ends as.)
 pub fn put<T: Word>(t: &mut [T], at: usize, v: T)
     ensures { t.new ≡ slice_set t.old at v }
 {
@@ -105,7 +105,7 @@ pub(crate) fn put_in<T: Word>(t: &mut [T], part: Part, at: usize, v: T)
 // Where the number of steps taken stands among the counters.
 pub const STEPS_TAKEN: u32 = 4;
 
-// A counter.
+// A counter, by its place: a number is what it promises for.
 #[tactic(auto, unfolding(rules::specs::Step::part))]
 pub fn counter(words: &[u64], at: u32) -> u64
     ensures { result ≡ slice_index (part 0 5 words.now) at }

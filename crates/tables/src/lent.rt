@@ -48,7 +48,7 @@ fn write_ids(ids: &mut [u32], c: Cell, v: u32)
     put_in(ids, Part::SOURCES, place(c, Table::Sources), v);
 }
 
-// Every record cell becomes 0.
+// Every record cell becomes 0. By an index: a table that is too short has no such part that `fill` could take.
 fn clear_records(ids: &mut [u32])
     ensures { ids.new ≡ stored_from ids.old from_records (replicate (4 * records) 0) }
 {
@@ -94,7 +94,7 @@ impl Lent<'_> {
         }
     }
 
-    // The cell becomes v.
+    // The cell becomes v. The rules' `written` is this: a store to each table, at the cell's place or past its end.
     pub fn write(&mut self, c: Cell, v: u64)
         ensures holds { held self.new ≡ on_cells (λ s. written s c v) (held self.old) }
         ensures same { AreSame self.old self.new }
