@@ -83,10 +83,12 @@ impl<R: Read, const N: usize> Input<R, N> {
     }
 
     // The next line is in the text, cut to its room. At the end of the input there is none.
+    #[tactic(auto, using(crate::proofs::Lines::front_first))]
     pub fn read_line<const L: usize>(&mut self, line: &mut Text<L>) -> Option<End>
         ensures none { result ≡ None → line.new ≡ [] }
         ensures rest { result ≡ Some End.Input → 0 < length line.new }
         ensures taken { result ≢ Some End.Newline → self.new ≡ [] }
+        ensures front { take (length (up_to self.old)) line.new ≡ take L (up_to self.old) }
         ensures left { length (up_to self.old) < length self.old → (result ≡ Some End.Newline) × (line.new ≡ take L (up_to self.old)) × (self.new ≡ drop (length (up_to self.old) + 1) self.old) }
     {
         line.clear();
