@@ -113,7 +113,8 @@ impl<const N: usize> Text<N> {
 
     // The end moves to a column, or behind the last one. What stands between is as it was.
     pub fn go_to(&mut self, column: usize)
-        ensures { length self.new ≡ min column N }
+        ensures column { length self.new ≡ min column N }
+        ensures front { take (length self.old) self.new ≡ take column self.old }
     {
         self.len = column.min(N);
     }
