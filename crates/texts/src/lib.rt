@@ -67,7 +67,7 @@ fn write_digits(x: u64, out: &mut [u8; 20]) -> usize
 }
 
 // A text of at most N bytes, which is written at its end. What finds no room is cut. It begins as N blanks, and its end
-// at their front: an end that moves on to a column leaves blanks behind it.
+// at their front: an end that moves on to a column leaves what stands there, blanks where nothing was written.
 #[derive(Drop)]
 pub struct Text<const N: usize> {
     bytes: [u8; N],
@@ -126,14 +126,10 @@ impl<const N: usize> Text<N> {
         self.len = fill(&mut self.bytes, self.len, words);
     }
 
-    #[tactic(auto, using(crate::specs::LineLaws::kept_more, crate::specs::LineLaws::kept_full))]
     pub fn put(&mut self, byte: u8)
         ensures { self.new ≡ take N (self.old ++ byte ∷ []) }
     {
-        if self.len < N {
-            self.bytes[self.len] = byte;
-            self.len += 1;
-        }
+        self.say(&[byte]);
     }
 
     #[tactic(auto, using(crate::proofs::Digits::decimal_digit))]
