@@ -43,6 +43,7 @@ const LISTED: usize = 100;
 
 // A line that was run: its number, its bytes and whether it has its newline; what it tells; its thread's row before it,
 // and what the row's step accesses; what the line was answered, and the steps that the thread's operation has taken.
+// Whether it is whole is a flag beside the bytes, since `replays::line_in` promises of such a flag.
 #[derive(Clone, Copy)]
 pub struct Ran<'a> {
     pub number: u64,

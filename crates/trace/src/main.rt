@@ -17,7 +17,8 @@ const ROOM: usize = 128;
 // How many cells are compared at a time.
 const BLOCK: usize = 64;
 
-// What a compared cell is of.
+// What a compared cell is of. A name and not a slice, since the seen cells and the output are of one struct, which a
+// line borrows whole.
 #[derive(Clone, Copy)]
 enum Cells {
     Ids,
@@ -44,7 +45,8 @@ fn is_apart(cells: &[u32], seen: &[u32]) -> bool {
     bits != 0
 }
 
-// Whether the cells from `at` to `end` differ from what was seen.
+// Whether the cells from `at` to `end` differ from what was seen. By where they stand, since a cell that differs has its
+// name from that.
 fn differs(cells: &[u32], seen: &[u32], at: usize, end: usize) -> bool {
     match (cells.get(at..end), seen.get(at..end)) {
         (Some(cells), Some(seen)) => is_apart(cells, seen),
@@ -53,7 +55,8 @@ fn differs(cells: &[u32], seen: &[u32], at: usize, end: usize) -> bool {
 }
 
 impl Trace {
-    // Head i holds x. The shutdown mark is not written.
+    // Head i holds x. The shutdown mark is not written. Heads, words and counters go by number: where a cell stands in its
+    // table is what a comparison gives.
     fn head_line(&mut self, i: usize, x: u64) {
         match i {
             0 => self.out.text.line(b" record_head ", x),
