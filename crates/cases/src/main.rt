@@ -7,6 +7,7 @@
 // rest of a case is passed over.
 #![tactic(auto)]
 
+use machine::step::{GUARD_WORDS, IDS, NODE_CELLS, SUMS};
 use replays::{Reply, runner};
 use std::io::{Stdin, Stdout, Write};
 use streams::{End, Input};
@@ -18,13 +19,28 @@ const LINE: usize = 400;
 
 const BEHIND: usize = 21;
 
-// A case: its name, whether it is under way and all its lines agreed, how many it had, and the last line that was run.
+// A case that is under way: its name, how many lines it had, which all agreed, and the last line that was run.
 #[derive(Drop)]
 struct Case {
     name: Text<LINE>,
-    is_open: bool,
     lines: u64,
     last: Text<LINE>,
+}
+
+// How a line differs from what is expected of it.
+enum Difference<'a> {
+    NoExpected,
+    Answered {
+        expected: &'a [u8],
+        answer: [u8; runner::ANSWER],
+    },
+}
+
+// Where the cases are reported, and the case that is under way: none before the first, or behind a line that differed.
+#[derive(Drop)]
+struct Cases {
+    stdout: Stdout,
+    case: Option<Case>,
 }
 
 // What a line is answered. A last line without newline is answered at the end of the input.
@@ -44,76 +60,89 @@ fn answered(tables: &mut Lent, number: u64, line: &[u8], is_whole: bool) -> [u8;
 }
 
 impl Case {
-    fn new() -> Self {
+    fn new(name: &[u8]) -> Self {
+        let mut text = Text::new();
+        text.say(name);
         Case {
-            name: Text::new(),
-            is_open: false,
+            name: text,
             lines: 0,
             last: Text::new(),
         }
     }
 
-    fn begin(&mut self, name: &[u8]) {
-        *self = Case::new();
-        self.name.say(name);
-        self.is_open = true;
-    }
-
-    // The end of a case: how many of its lines agreed, if all did.
-    fn close(&self, stdout: &mut Stdout) {
-        if self.is_open {
-            let lines = self.lines;
-            let _ = stdout.write_all(self.name.as_bytes());
-            let _ = writeln!(stdout, ": {lines} lines agree");
-        }
-    }
-
-    fn say_line(&self, stdout: &mut Stdout) {
-        let number = self.lines;
-        let _ = stdout.write_all(self.name.as_bytes());
-        let _ = write!(stdout, ": line {number}");
-    }
-
-    // Whether the last line got its expected answer; says so of one that did not.
-    fn agrees(&self, tables: &mut Lent, is_whole: bool, stdout: &mut Stdout) -> bool {
-        let Some((line, behind)) = self.last.as_bytes().split_last_chunk::<BEHIND>() else {
-            self.say_line(stdout);
-            let _ = stdout.write_all(b": no expected answer\n");
-            return false;
-        };
-        let expected = &behind[1..];
-        let answer = answered(tables, self.lines, line, is_whole);
-        if answer.starts_with(expected) {
-            return true;
-        }
-        self.say_line(stdout);
-        let _ = stdout.write_all(b": expected ");
-        let _ = stdout.write_all(expected);
-        let _ = stdout.write_all(b", answered ");
-        let _ = stdout.write_all(&answer);
-        false
-    }
-
     // One more line, which a line of one dot leaves as it was.
-    fn run_line(&mut self, tables: &mut Lent, line: &[u8], is_whole: bool, stdout: &mut Stdout) {
+    fn add(&mut self, line: &[u8]) {
         self.lines = self.lines.wrapping_add(1);
         if !matches!(line, b".") {
             self.last.clear();
             self.last.say(line);
         }
-        if self.is_open {
-            self.is_open = self.agrees(tables, is_whole, stdout);
+    }
+
+    // Whether the last line gets its expected answer.
+    fn run(&self, tables: &mut Lent, is_whole: bool) -> Result<(), Difference> {
+        let Some((line, behind)) = self.last.as_bytes().split_last_chunk::<BEHIND>() else {
+            return Err(Difference::NoExpected);
+        };
+        let expected = &behind[1..];
+        let answer = answered(tables, self.lines, line, is_whole);
+        if answer.starts_with(expected) {
+            Ok(())
+        } else {
+            Err(Difference::Answered { expected, answer })
         }
     }
 }
 
+impl Cases {
+    // The end of a case: how many of its lines agreed, if all did.
+    fn close(&mut self) {
+        if let Some(case) = &self.case {
+            let lines = case.lines;
+            let _ = self.stdout.write_all(case.name.as_bytes());
+            let _ = writeln!(self.stdout, ": {lines} lines agree");
+        }
+    }
+
+    fn begin(&mut self, name: &[u8]) {
+        self.close();
+        self.case = Some(Case::new(name));
+    }
+
+    // One more line, where a case is under way; its first difference is said, and ends it.
+    fn run_line(&mut self, tables: &mut Lent, line: &[u8], is_whole: bool) {
+        let Some(case) = &mut self.case else {
+            return;
+        };
+        case.add(line);
+        let Err(difference) = case.run(tables, is_whole) else {
+            return;
+        };
+        let number = case.lines;
+        let _ = self.stdout.write_all(case.name.as_bytes());
+        let _ = write!(self.stdout, ": line {number}");
+        match difference {
+            Difference::NoExpected => {
+                let _ = self.stdout.write_all(b": no expected answer\n");
+            }
+            Difference::Answered { expected, answer } => {
+                let _ = self.stdout.write_all(b": expected ");
+                let _ = self.stdout.write_all(expected);
+                let _ = self.stdout.write_all(b", answered ");
+                let _ = self.stdout.write_all(&answer);
+            }
+        }
+        self.case = None;
+    }
+}
+
 // One case, up to the name of the next; whether there is one.
-fn run(input: &mut Input<Stdin, 16384>, case: &mut Case, stdout: &mut Stdout) -> bool {
-    let mut ids = [0u32; 4507];
-    let mut next = [0u32; 4096];
-    let mut state = [0u32; 4096];
-    let mut words = [0u64; 85];
-    let mut guards = [0u64; 1024];
+fn run(input: &mut Input<Stdin, 16384>, cases: &mut Cases) -> bool {
+    let mut ids = [0u32; IDS];
+    let mut next = [0u32; NODE_CELLS];
+    let mut state = [0u32; NODE_CELLS];
+    let mut words = [0u64; SUMS];
+    let mut guards = [0u64; GUARD_WORDS];
     let mut tables = Lent {
         ids: &mut ids,
         next: &mut next,
@@ -128,23 +157,24 @@ fn run(input: &mut Input<Stdin, 16384>, case: &mut Case, stdout: &mut Stdout) ->
         };
         match line.as_bytes() {
             [b'#', b' ', name @ ..] => {
-                case.close(stdout);
-                case.begin(name);
+                cases.begin(name);
                 return true;
             }
-            bytes => case.run_line(&mut tables, bytes, end == End::Newline, stdout),
+            bytes => cases.run_line(&mut tables, bytes, end == End::Newline),
         }
     }
-    case.close(stdout);
+    cases.close();
     false
 }
 
 fn main(rt: HostRuntime) {
     let mut input = Input::new(rt.stdin());
-    let mut stdout = rt.stdout();
-    let mut case = Case::new();
+    let mut cases = Cases {
+        stdout: rt.stdout(),
+        case: None,
+    };
     for _ in 0..u64::MAX {
-        if !run(&mut input, &mut case, &mut stdout) {
+        if !run(&mut input, &mut cases) {
             break;
         }
     }

@@ -6,12 +6,12 @@ use rows::load_row;
 use rules::answer::{Answer, Outcome, Refusal};
 use rules::kind::Kind;
 use rules::pc::Pc;
-use rules::{Access, Row};
+use rules::{Access, Named, Row};
 use sights::saw::Saw;
 use sights::why::Why;
 use std::fmt;
 use std::fmt::Write;
-use tables::{Lent, counter};
+use tables::{Lent, address};
 use texts::Text;
 use words::names;
 use words::names::{Accessed, Asked};
@@ -38,16 +38,12 @@ const ANSWER_END: usize = 64;
 
 const WORDS: usize = 65;
 
-// Two of the counters.
-const RECORD_COUNT: u32 = 0;
-
-const COUNT: u32 = 1;
-
 // How long a line of the listing may be.
 const LISTED: usize = 100;
 
 // A line that was run: its number, its bytes and whether it has its newline; what it tells; its thread's row before it,
 // and what the row's step accesses; what the line was answered, and the steps that the thread's operation has taken.
+// Whether it is whole is a flag beside the bytes, since `replays::line_in` promises of such a flag.
 #[derive(Clone, Copy)]
 pub struct Ran<'a> {
     pub number: u64,
@@ -261,8 +257,8 @@ impl Ran<'_> {
             u64::from(hazard),
             u64::from(answer.number),
             answer.value,
-            counter(tables.words, COUNT),
-            counter(tables.words, RECORD_COUNT),
+            tables.fetch(address(Named::Count)),
+            tables.fetch(address(Named::RecordCount)),
         ];
         text.number(self.number);
         for x in others {

@@ -14,6 +14,7 @@ mod options;
 use crate::lister::Lister;
 use frames::Line;
 use listings::Ran;
+use machine::step::{GUARD_WORDS, IDS, NODE_CELLS, SUMS};
 use replays::Reply;
 use rows::load_row;
 use rules::answer::{Outcome, Refusal};
@@ -73,11 +74,11 @@ fn run_line<'a>(
 
 // A replay, up to the line that begins the next; whether there is one.
 fn run(input: &mut Input<Stdin, 16384>, lister: &mut Lister) -> bool {
-    let mut ids = [0u32; 4507];
-    let mut next = [0u32; 4096];
-    let mut state = [0u32; 4096];
-    let mut words = [0u64; 85];
-    let mut guards = [0u64; 1024];
+    let mut ids = [0u32; IDS];
+    let mut next = [0u32; NODE_CELLS];
+    let mut state = [0u32; NODE_CELLS];
+    let mut words = [0u64; SUMS];
+    let mut guards = [0u64; GUARD_WORDS];
     let mut tables = Lent {
         ids: &mut ids,
         next: &mut next,

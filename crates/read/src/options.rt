@@ -1,6 +1,6 @@
 // What a line `#!` asks: `#! [from N] [to N] [thread N] [data] [title]`.
 
-// No thread has this number, which asks for every one.
+// No thread has this number, which asks for every one: a line may say so, and what a line asks stays as it is.
 const EVERY: u64 = 256;
 
 // The lines that are asked for, by their numbers and their thread; and whether as numbers.

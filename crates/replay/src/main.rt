@@ -1,17 +1,18 @@
 // Runs a replay: standard input to standard output, in blocks. What a block writes is the library's; this moves bytes.
 #![tactic(auto)]
 
+use machine::step::{GUARD_WORDS, IDS, NODE_CELLS, SUMS};
 use replays::runner;
 use std::io::Write;
 use streams::Input;
 use tables::Lent;
 
 fn main(rt: HostRuntime) {
-    let mut ids = [0u32; 4507];
-    let mut next = [0u32; 4096];
-    let mut state = [0u32; 4096];
-    let mut words = [0u64; 85];
-    let mut guards = [0u64; 1024];
+    let mut ids = [0u32; IDS];
+    let mut next = [0u32; NODE_CELLS];
+    let mut state = [0u32; NODE_CELLS];
+    let mut words = [0u64; SUMS];
+    let mut guards = [0u64; GUARD_WORDS];
     let mut tables = Lent {
         ids: &mut ids,
         next: &mut next,

@@ -1,11 +1,11 @@
 // Why a line was refused. Of a step that is answered NotRetirable or NoRecords, which ends its operation, the row as it
 // was before says all.
-use rows::load_row;
+use rows::{load_row, place};
 use rules::answer::Refusal;
 use rules::pc::Pc;
-use rules::{Named, NodeState, Operation, RECORDS, Row, SOURCES, THREADS};
+use rules::{Mark, Named, NodeState, Operation, RECORDS, Row, SOURCES, THREADS};
 use std::fmt;
-use tables::{Lent, address};
+use tables::{Lent, address, cut};
 use words::names;
 use words::told::Told;
 
@@ -78,6 +78,7 @@ impl fmt::Display for Why {
                 names::operation(operation),
                 names::place(place)
             ),
+            // A holder is a number: 0 of a row that is not taken, 1 of nobody, t + 2 of thread t.
             Why::Record { rec, holder: 0 } => write!(f, "record {rec} is not in use"),
             Why::Record { rec, holder: 1 } => write!(f, "record {rec} is nobody's"),
             Why::Record { rec, holder } => {
@@ -127,7 +128,8 @@ impl Why {
         let told = Told::from(o);
         match refusal {
             Refusal::Thread => Why::NoThread(thread),
-            Refusal::ShutDown if cell(tables, Named::Shutdown) == 1 => Why::ShuttingDown,
+            Refusal::ShutDown if cell(tables, Named::Shutdown) == Mark::Closing as u64 =>
+                Why::ShuttingDown,
             Refusal::ShutDown => Why::ShutDown,
             Refusal::Inside => Why::Inside {
                 operation: row.operation,
@@ -158,7 +160,7 @@ impl Why {
 
     // What keeps a node from being retired.
     fn of_node(tables: &Lent, node: u64) -> Why {
-        let state = cell(tables, Named::NodeState((node % 4294967296) as u32));
+        let state = cell(tables, Named::NodeState(cut(node)));
         let source = if state == NodeState::Live as u64 {
             (1..=SOURCES).find(|b| cell(tables, Named::Source(*b)) == node)
         } else {
@@ -173,14 +175,17 @@ impl Why {
 
     // What a shutdown has to wait for.
     fn of_shutdown(tables: &Lent) -> Why {
-        if let Some(thread) = (0..THREADS).find(|t| load_row(tables, *t).place != 0) {
+        if let Some(thread) = (0..THREADS).find(|t| place(tables, *t) != Pc::Idle as u32) {
             return Why::InUse {
                 thread,
                 operation: load_row(tables, thread).operation,
             };
         }
-        let owned = (1..=RECORDS).find(|r| 1 < cell(tables, Named::Holder(*r)));
-        Why::of_record(tables, owned.unwrap_or(0))
+        match (1..=RECORDS).find(|r| 1 < cell(tables, Named::Holder(*r))) {
+            Some(rec) => Why::of_record(tables, rec),
+            // A shutdown is refused for a thread or a record: one of them is found.
+            None => Why::NoRecord(0),
+        }
     }
 
     // What is wrong with a line that is none.

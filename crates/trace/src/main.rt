@@ -2,6 +2,7 @@
 // library's; this compares the tables with what they held before, and moves bytes.
 #![tactic(auto)]
 
+use machine::step::{GUARD_WORDS, IDS, NODE_CELLS, SUMS};
 use replays::runner;
 use rules::{FROM_RECORDS, FROM_ROWS, FROM_SOURCES};
 use std::io::Stdout;
@@ -16,9 +17,8 @@ const ROOM: usize = 128;
 // How many cells are compared at a time.
 const BLOCK: usize = 64;
 
-const CELLS: usize = 4096;
-
-// What a compared cell is of.
+// What a compared cell is of. A name and not a slice, since the seen cells and the output are of one struct, which a
+// line borrows whole.
 #[derive(Clone, Copy)]
 enum Cells {
     Ids,
@@ -30,8 +30,8 @@ enum Cells {
 #[derive(Drop)]
 struct Trace {
     ids: [u32; FROM_ROWS],
-    next: [u32; CELLS],
-    state: [u32; CELLS],
+    next: [u32; NODE_CELLS],
+    state: [u32; NODE_CELLS],
     counters: [u64; 4],
     out: Output<Stdout, BUFFER>,
 }
@@ -45,7 +45,8 @@ fn is_apart(cells: &[u32], seen: &[u32]) -> bool {
     bits != 0
 }
 
-// Whether the cells from `at` to `end` differ from what was seen.
+// Whether the cells from `at` to `end` differ from what was seen. By where they stand, since a cell that differs has its
+// name from that.
 fn differs(cells: &[u32], seen: &[u32], at: usize, end: usize) -> bool {
     match (cells.get(at..end), seen.get(at..end)) {
         (Some(cells), Some(seen)) => is_apart(cells, seen),
@@ -54,7 +55,8 @@ fn differs(cells: &[u32], seen: &[u32], at: usize, end: usize) -> bool {
 }
 
 impl Trace {
-    // Head i holds x. The shutdown mark is not written.
+    // Head i holds x. The shutdown mark is not written. Heads, words and counters go by number: where a cell stands in its
+    // table is what a comparison gives.
     fn head_line(&mut self, i: usize, x: u64) {
         match i {
             0 => self.out.text.line(b" record_head ", x),
@@ -148,7 +150,7 @@ impl Trace {
     }
 
     fn node_changes(&mut self, next: &[u32], state: &[u32]) {
-        for at in (0..CELLS).step_by(BLOCK) {
+        for at in (0..NODE_CELLS).step_by(BLOCK) {
             let end = at.saturating_add(BLOCK);
             if differs(next, &self.next, at, end) || differs(state, &self.state, at, end) {
                 for i in at..end {
@@ -186,11 +188,11 @@ impl Trace {
 }
 
 fn main(rt: HostRuntime) {
-    let mut ids = [0u32; 4507];
-    let mut next = [0u32; 4096];
-    let mut state = [0u32; 4096];
-    let mut words = [0u64; 85];
-    let mut guards = [0u64; 1024];
+    let mut ids = [0u32; IDS];
+    let mut next = [0u32; NODE_CELLS];
+    let mut state = [0u32; NODE_CELLS];
+    let mut words = [0u64; SUMS];
+    let mut guards = [0u64; GUARD_WORDS];
     let mut tables = Lent {
         ids: &mut ids,
         next: &mut next,
@@ -201,8 +203,8 @@ fn main(rt: HostRuntime) {
     let mut input = Input::<_, 16384>::new(rt.stdin());
     let mut trace = Trace {
         ids: [0; FROM_ROWS],
-        next: [0; CELLS],
-        state: [0; CELLS],
+        next: [0; NODE_CELLS],
+        state: [0; NODE_CELLS],
         counters: [0; 4],
         out: Output::new(rt.stdout()),
     };

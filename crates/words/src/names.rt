@@ -1,4 +1,8 @@
 // The names of operations, places and cells, and a few words on what each place is for.
+ghost use Rattle.std.specs.Prelude.{◌≡◌, ◌↔◌, ℕ};
+ghost use Rattle.rules.specs.declared.Access.{Access};
+ghost use Rattle.rules.specs.declared.Named.{Named};
+
 use rules::kind::{Kind, NoKind};
 use rules::pc::Pc;
 use rules::{Access, Named, Operation};
@@ -218,7 +222,9 @@ impl fmt::Display for Accessed {
 }
 
 // The record whose hazard an access stores to.
-pub fn hazard(access: Access) -> Option<u32> {
+pub fn hazard(access: Access) -> Option<u32>
+    ensures { (r : ℕ) → result ≡ Some r ↔ access ≡ Access.HazardStore (Named.Hazard r) }
+{
     match access {
         Access::HazardStore(Named::Hazard(r)) => Some(r),
         _ => None,

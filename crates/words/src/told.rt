@@ -1,4 +1,8 @@
 // What an operation names, as numbers.
+ghost use Rattle.std.specs.Prelude.{◌≡◌, ◌↔◌, ℕ, Bool, IsNone};
+ghost use Rattle.frames.specs.declared.Line.{Line};
+ghost use Rattle.rules.specs.declared.Operation.{Operation};
+
 use frames::Line;
 use rules::kind::Kind;
 use rules::{Operation, Row};
@@ -112,7 +116,11 @@ impl Told {
 }
 
 // The thread that a line is of.
-pub fn thread(line: Line) -> Option<u32> {
+pub fn thread(line: Line) -> Option<u32>
+    ensures bad { IsNone result ↔ (line ≡ Line.Bad) }
+    ensures step { (t : ℕ) (flag : Bool) (clock : ℕ) → line ≡ Line.Step t flag clock → result ≡ Some t }
+    ensures start { (t : ℕ) (o : Operation) → line ≡ Line.Start t o → result ≡ Some t }
+{
     match line {
         Line::Step { thread, .. } | Line::Start { thread, .. } => Some(thread),
         Line::Bad => None,
