@@ -1,8 +1,8 @@
 #!/usr/bin/env python3
 # Writes docs/PROMISES.md's table of public functions anew from the sources: each one's promise as its contract states it;
 # and behind each file of its table of demands the lines where the theorems or contracts of that row stand.
-# S and S′ stand for the five tables at entry and exit, F and F′ for those without the guards, C for the shared cells in
-# them, a primed name for a slice at exit.
+# S and S′ stand for the five tables at entry and exit, a primed name for a slice at exit. That lent tables stay the
+# caller's (`AreSame`) is said once, on the page.
 import glob
 import os
 import re
@@ -12,17 +12,16 @@ order=[l.split(':')[0].split()[0] for l in open('crates.txt') if ':' in l and no
 rows=[]
 def short(e):
     for side, mark in (('(?:old|now)', ''), ('new', '′')):
-        four = ' '.join(rf'{t}\.{side}' for t in ('ids', 'next', 'state', 'words'))
-        for words, name in ((rf'lent {four} guards\.{side}', 'S'), (rf'lent {four} \[\]', 'F'), (rf'shared_in {four}', 'C')):
-            e=re.sub(rf'\({words}\)|{words}',name+mark,e)
+        five = ' '.join(rf'{t}\.{side}' for t in ('ids', 'next', 'state', 'words', 'guards'))
+        e=re.sub(rf'\(lent {five}\)|lent {five}|\(held \w+\.{side}\)|held \w+\.{side}','S'+mark,e)
     e=re.sub(r'\b(\w+)\.(?:old|now)\b',r'\1',e); e=re.sub(r'\b(\w+)\.new\b',r'\1′',e)
     e=re.sub(r'\((\w+′?)\)',r'\1',e)
     return e.strip()
 # Whether a promise leaves one answer and one content: not if it is no equation but for bounds, or is one of a field, of the
 # front of a buffer, or of what `standing` counts of what is kept.
 def one(p):
-    said=[c.strip('()') for c in p.split(' × ') if '≤' not in c]
-    open_=[c for c in said if '≡' not in c or re.match(r'take |result\.',c) or re.search(r'\bstanding\b',c)]
+    said=[c.strip('()') for c in re.split(' × | and ',p) if '≤' not in c]
+    open_=[c for c in said if '≡' not in c or '→' in c or re.match(r'take |length |result\.',c) or re.search(r'\bstanding\b',c)]
     return 'yes' if said and not open_ else 'part' if p else 'none'
 for c in order:
     lib=f'crates/{c}/src/lib.rt'
@@ -33,12 +32,14 @@ for c in order:
         if m=='main': continue
         if m!='lib' and not re.search(r'^pub mod '+m+';',libs,flags=re.M): continue
         s=open(f).read()
-        for mm in re.finditer(r'^pub (?:extern "C" )?fn (\w+)(?:<[^>]*>)?\(([^{}]*?)\)(?: -> ([^\n{]*?))?\s*((?:\n    (?:requires|ensures)[^\n]*)*)\s*\{',s,flags=re.M):
-            name,params,ret,cl=mm.groups()
+        for mm in re.finditer(r'^( *)pub (?:extern "C" )?(?:const )?fn (\w+)(?:<[^>]*>)?\(([^{}]*?)\)(?: -> ([^\n{]*?))?\s*((?:\n +(?:requires|ensures)[^\n]*)*)\s*\{',s,flags=re.M):
+            indent,name,params,ret,cl=mm.groups()
+            # a method's type is that of the block it stands in
+            block=re.findall(r'^impl(?:<[^>]*>)? (\w+)',s[:mm.start()],flags=re.M)
             req='requires' in cl
-            ens=re.findall(r'ensures(?: \w+)? \{ (.*) \}$',cl,flags=re.M)
+            ens=[e for e in re.findall(r'ensures(?: \w+)? \{ (.*) \}$',cl,flags=re.M) if not e.startswith('AreSame')]
             p=' and '.join(short(e) for e in ens)
-            path=f"{c}::{'' if m=='lib' else m+'::'}{name}"
+            path=f"{c}::{'' if m=='lib' else m+'::'}{block[-1]+'::' if indent else ''}{name}"
             rows.append((path,f"crates/{c}/src/{m}.rt",p,'no' if req else one(p)))
 out='| function | promise | one |\n|---|---|---|\n'+'\n'.join(f"| `{a}` | {('`'+p+'`') if p else '-'} | {o} |" for a,f,p,o in rows)+'\n'
 page = open('docs/PROMISES.md').read()

@@ -5,7 +5,9 @@ use Rattle.std.proofs.Common.{ap, ◌∙◌, subst, inl, inr, arith, length-set,
 use Rattle.std.proofs.Math.Decide.{ℕ_discrete, dec_lt}
 use Rattle.rules.specs.Sizes.{records, steps, Settings}
 use Rattle.rules.specs.Words.{plus, over, threshold}
-use Rattle.rules.specs.Pc.{Pc, pc_of, code}
+use Rattle.rules.specs.Pc.{pc_of, code}
+use Rattle.rules.specs.declared.pc.Pc.{Pc}
+use Rattle.rules.specs.declared.pc.Pc.TheVariants as Pc
 use Rattle.rules.specs.Rows.{idle, shard_in, stolen_from}
 use Rattle.rules.specs.Places.{checked, passed, emptied, examine_from, examined, after_free}
 use Rattle.rules.specs.declared.Row.{Row}

@@ -7,7 +7,9 @@ use native.Mathlib.Omega.{arith}
 use Rattle.std.proofs.Math.ListN.{length, get_or}
 use Rattle.rules.specs.Sizes.{records, steps, nodes, threads, Settings}
 use Rattle.rules.specs.Words.{plus, over}
-use Rattle.rules.specs.Pc.{Pc, pc_of, code}
+use Rattle.rules.specs.Pc.{pc_of, code}
+use Rattle.rules.specs.declared.pc.Pc.{Pc}
+use Rattle.rules.specs.declared.pc.Pc.TheVariants as Pc
 use Rattle.rules.specs.Rows.{idle, go_to, taking, counting, freeing, reclaiming}
 use Rattle.rules.specs.Places.{accesses, does, ends, becomes, stores, checked, after_free}
 use Rattle.rules.specs.Start.{begins, narrow, fresh_at}

@@ -4,7 +4,9 @@ use Rattle.std.proofs.Common.{sym, ap, ◌∙◌, subst, inl, inr, arith, eqb-tr
 use Rattle.std.proofs.lemmas.Bool.{eqb-false}
 use Rattle.rules.specs.Sizes.{threads, Settings}
 use Rattle.rules.specs.Words.{plus, less}
-use Rattle.rules.specs.Pc.{Pc, pc_of, code}
+use Rattle.rules.specs.Pc.{pc_of, code}
+use Rattle.rules.specs.declared.pc.Pc.{Pc}
+use Rattle.rules.specs.declared.pc.Pc.TheVariants as Pc
 use Rattle.rules.specs.Rows.{idle, go_to, in_shard, taking}
 use Rattle.rules.specs.Places.{accesses, does, ends, checked, passed, emptied}
 use Rattle.rules.specs.Start.{begins}

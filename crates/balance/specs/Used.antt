@@ -4,7 +4,9 @@ use Rattle.std.proofs.Math.Path.{refl}
 use Rattle.std.proofs.Common.{sym, ap, ◌∙◌, subst, inl, inr, arith, get_or-set_other}
 use Rattle.rules.specs.Sizes.{records, Settings}
 use Rattle.rules.specs.Words.{plus}
-use Rattle.rules.specs.Pc.{Pc, pc_of, code}
+use Rattle.rules.specs.Pc.{pc_of, code}
+use Rattle.rules.specs.declared.pc.Pc.{Pc}
+use Rattle.rules.specs.declared.pc.Pc.TheVariants as Pc
 use Rattle.rules.specs.Rows
 use Rattle.rules.specs.Rows.{idle, go_to}
 use Rattle.rules.specs.Places.{accesses, does, ends, also_stores, becomes}

@@ -13,7 +13,7 @@ use Rattle.std.proofs.Math.Decide.{dec_lt, ℕ_discrete}
 use Rattle.rules.specs.Sizes.{Settings, base}
 use Rattle.rules.specs.Words.{locked, with_lock, shard_of, is_guarded, guarded_also, none_guarded}
 
--- ---- masks and shifts, as the code has them
+-- ---- masks and shifts
 pub low6 : (n : ℕ) → bit_and n 63 ≡ n % 64
 low6 n = and_mask n 6
 

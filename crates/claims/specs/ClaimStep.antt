@@ -11,7 +11,9 @@ use Rattle.std.proofs.lemmas.Bool.{eqb-false}
 use Rattle.base.specs.Pick.{pick}
 use Rattle.rules.specs.Sizes.{records, nodes, words, threads, Settings}
 use Rattle.rules.specs.Words.{is_guarded}
-use Rattle.rules.specs.Pc.{Pc, pc_of, code}
+use Rattle.rules.specs.Pc.{pc_of, code}
+use Rattle.rules.specs.declared.pc.Pc.{Pc}
+use Rattle.rules.specs.declared.pc.Pc.TheVariants as Pc
 use Rattle.rules.specs.Rows
 use Rattle.rules.specs.Rows.{idle, in_shard, shard_in, stealing, go_to, first}
 use Rattle.rules.specs.Places.{accesses, does, ends, becomes, stores, also_stores, finishes, reclaims, guarding, clears_guards}

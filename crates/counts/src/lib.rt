@@ -6,37 +6,30 @@ ghost use Rattle.rules.specs.Sizes.{base};
 ghost use Rattle.rules.specs.Words.{threshold, over, due_time};
 
 // The threshold's least value.
-const FLOOR: u64 = 1000;
-// The largest word that is not negative.
-const LARGEST: u64 = 9223372036854775807;
+const FLOOR: i64 = 1000;
 // How long after a clock the next pass is due, in nanoseconds.
-const PERIOD: u64 = 2000000000;
+const PERIOD: u64 = 2_000_000_000;
 
 // Doubling wraps, as the crate's does, so that the double may be negative.
+#[tactic(auto, unfolding(rules::specs::Words::threshold))]
 pub fn threshold(records: u64) -> u64
     ensures { result ≡ threshold base records }
 {
-    let doubled = std::num::wrapping_add_u64(records, records);
-    if LARGEST < doubled {
-        return FLOOR;
-    }
-    if FLOOR < doubled { doubled } else { FLOOR }
+    let doubled = records.wrapping_add(records).cast_signed();
+    doubled.max(FLOOR).cast_unsigned()
 }
 
+#[tactic(auto, unfolding(rules::specs::Words::over, rules::specs::Words::threshold))]
 pub fn over(count: u64, records: u64) -> bool
     ensures { result ≡ over base count records }
 {
-    let threshold = threshold(records);
-    if LARGEST < count {
-        return false;
-    }
-    threshold < count
+    threshold(records).cast_signed() < count.cast_signed()
 }
 
 pub fn due_time(clock: u64) -> u64
     ensures { result ≡ due_time clock }
 {
-    std::num::wrapping_add_u64(clock, PERIOD)
+    clock.wrapping_add(PERIOD)
 }
 
 pub fn is_due(clock: u64, due_time: u64) -> bool

@@ -1,3 +1,4 @@
+pub mod Listed
 pub mod NumberLaws
 pub mod FieldLaws
 pub mod RoundTrip

@@ -8,7 +8,7 @@ use Rattle.std.proofs.lemmas.List.{set_comm}
 use Rattle.std.proofs.Math.Nat.{sub-zero, pow-le-pow_right}
 use native.Mathlib.Omega.{arith}
 use Rattle.base.specs.Pick.{pick}
-use Rattle.frames.specs.Hex.{digit_of, hex_of, all_digits, number_from, field, digits_of}
+use Rattle.frames.specs.Hex.{digit_of, hex_of, all_digits, number_from, number_of, field, digits_of}
 use Rattle.frames.specs.HexLaws.{digits_length, all_cons, one_more}
 
 -- ---- every byte is a digit if every byte of what is left is
@@ -59,6 +59,22 @@ module _ (l : List ℕ) (at n : ℕ) where
   pub reading_all : (i v : ℕ) → Reading l at n i v → n ≤ i → v ≡ field at n l
   unfolding number_from
   reading_all i v r h = let z : n - i ≡ 0 = omega arith in sym (r ∙ rw z)
+
+-- ---- the same of a whole list of digits
+module _ (l : List ℕ) (i v d : ℕ) (e : d ≡ digit_of (get_or l i 0)) (h : i < length l) where
+  pub reads_below : all_digits l ≡ true → v < 16 ^ i → v * 16 + d < 16 ^ (i + 1)
+  reads_below a b = rw add-one (one_more i v d b (rw e (digit_at l i a h)))
+
+  pub reads_fit : all_digits l ≡ true → v < 16 ^ i → length l ≤ 16 → v * 16 + d < 2 ^ 64
+  reads_fit a b q = lt_of_lt_of_le (reads_below a b) (pow-le-pow_right (lit< tt) {i = i + 1} {j = 16} (omega arith))
+
+  pub reads_more : number_of l ≡ number_from v (drop i l) → number_of l ≡ number_from (v * 16 + d) (drop (i + 1) l)
+  unfolding number_from
+  reads_more r = r ∙ rw (add-one, drop-cons l i 0, e)
+
+pub reads_all : (l : List ℕ) (i v : ℕ) → number_of l ≡ number_from v (drop i l) → length l ≤ i → v ≡ number_of l
+unfolding number_from
+reads_all l i v r h = sym (r ∙ rw drop_of_length-le)
 
 -- ---- all but k of n digits of x are written from at on, and rest is what is left of x
 abbrev pub Writing : List ℕ → ℕ → ℕ → ℕ → List ℕ → ℕ → ℕ → Type 0

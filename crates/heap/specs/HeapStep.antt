@@ -10,8 +10,9 @@ use Rattle.std.proofs.Math.Seq.{get_or-set_same, set_out}
 use Rattle.std.proofs.lemmas.Bool.{eqb-false}
 use Rattle.base.specs.Pick.{pick}
 use Rattle.rules.specs.Sizes.{nodes, Settings}
-use Rattle.rules.specs.Pc
-use Rattle.rules.specs.Pc.{Pc, pc_of, code}
+use Rattle.rules.specs.declared.pc.Pc.TheVariants as Pc
+use Rattle.rules.specs.Pc.{pc_of, code}
+use Rattle.rules.specs.declared.pc.Pc.{Pc}
 use Rattle.rules.specs.Rows
 use Rattle.rules.specs.Rows.{idle, go_to, in_shard, seeing, with_lone, keeping, reclaiming, with_done, stealing, freeing, freed, shard_in, first, stolen_from}
 use Rattle.rules.specs.Places

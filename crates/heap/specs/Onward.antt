@@ -11,8 +11,9 @@ use Rattle.std.proofs.Math.ListN.{get_or}
 use borrow.Author.Tests.{eqb-true, eqb-false}
 use Rattle.base.specs.Pick.{pick}
 use Rattle.rules.specs.Sizes.{Settings}
-use Rattle.rules.specs.Pc
-use Rattle.rules.specs.Pc.{Pc, code}
+use Rattle.rules.specs.declared.pc.Pc.TheVariants as Pc
+use Rattle.rules.specs.Pc.{code}
+use Rattle.rules.specs.declared.pc.Pc.{Pc}
 use Rattle.rules.specs.Rows.{idle, go_to, in_shard, shard_in, stolen_from}
 use Rattle.rules.specs.Places.{new_pass, checked, passed, emptied, examine_at, examine_from, examined, after_free, shut_next}
 use Rattle.rules.specs.declared.Row.{Row}

@@ -2,8 +2,9 @@
 use Rattle.std.specs.Prelude.{◌≡◌, refl, ◌≢◌, ◌⊎◌, List, [], ◌∷◌, map, ℕ, ◌+◌, ◌≤◌, ◌<◌, length, get_or, set}
 use Rattle.std.proofs.Common.{ap, ◌∙◌, inl, inr, length-append, get_or-set_other}
 use Rattle.rules.specs.Sizes.{Settings}
-use Rattle.rules.specs.Pc
-use Rattle.rules.specs.Pc.{Pc, pc_of}
+use Rattle.rules.specs.declared.pc.Pc.TheVariants as Pc
+use Rattle.rules.specs.Pc.{pc_of}
+use Rattle.rules.specs.declared.pc.Pc.{Pc}
 use Rattle.rules.specs.Rows.{idle}
 use Rattle.rules.specs.declared.Row.{Row}
 use Rattle.lists.specs.Chain.{last}

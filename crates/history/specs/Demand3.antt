@@ -5,7 +5,9 @@
 use Rattle.std.specs.Prelude.{ℕ, zero, suc, ◌+◌, ◌*◌, ◌^◌, ◌≤◌, ◌<◌, min, max, ◌≡◌, ◌≢◌, Bool, List, [], ◌∷◌, ◌++◌, map, get_or, set, replicate, eqb, ltb, leb}
 use Rattle.base.specs.Pick.{pick, both}
 use Rattle.rules.specs.Sizes.{records, nodes, threads, words, row32, row64, counter_cells, from_rows, Settings}
-use Rattle.rules.specs.Pc.{Pc, code, pc_of}
+use Rattle.rules.specs.Pc.{code, pc_of}
+use Rattle.rules.specs.declared.pc.Pc.{Pc}
+use Rattle.rules.specs.declared.pc.Pc.TheVariants as Pc
 use Rattle.rules.specs.Cells.{address}
 use Rattle.rules.specs.Rows.{row_at}
 use Rattle.rules.specs.Places.{accesses}
@@ -14,7 +16,7 @@ use Rattle.rules.specs.Start.{start_of}
 use Rattle.rules.specs.declared.Operation.{Operation}
 use Rattle.rules.specs.declared.Operation.TheVariants.{Acquire, Release, Protect, Try, TryProtect, Reset, Raw, Swap}
 use Rattle.rules.specs.declared.Operation.TheVariants.{Retire, Eager, Cleanup, Shutdown}
-use Rattle.rules.specs.declared.Answer.{Answer}
+use Rattle.rules.specs.declared.answer.Answer.{Answer}
 use Rattle.rules.specs.declared.Row.{Row}
 use Rattle.rules.specs.declared.Named.{Named}
 use Rattle.rules.specs.declared.Named.TheVariants as cell

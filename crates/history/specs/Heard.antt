@@ -4,7 +4,9 @@ use Rattle.std.proofs.Common.{sym, ap, ◌∙◌, get_or-set_other, ne_eqb, eq-e
 use Rattle.std.proofs.Math.Decide.{ℕ_discrete}
 use Rattle.std.proofs.lemmas.Bool.{eqb-false}
 use Rattle.rules.specs.Sizes.{Settings}
-use Rattle.rules.specs.Pc.{Pc, code}
+use Rattle.rules.specs.Pc.{code}
+use Rattle.rules.specs.declared.pc.Pc.{Pc}
+use Rattle.rules.specs.declared.pc.Pc.TheVariants as Pc
 use Rattle.rules.specs.Rows.{idle}
 use Rattle.rules.specs.Places.{accesses, does}
 use Rattle.rules.specs.Step.{answer}

@@ -3,7 +3,7 @@ use Rattle.std.specs.Prelude.{◌≡◌, refl, ◌≢◌, ◌⊎◌, List, ℕ, 
 use Rattle.std.proofs.Common.{sym, ap, ◌∙◌, inl, inr, arith}
 use Rattle.rules.specs.Sizes.{Settings}
 use Rattle.rules.specs.Step.{State, Out, step_of}
-use Rattle.rules.specs.declared.Answer.{Answer}
+use Rattle.rules.specs.declared.answer.Answer.{Answer}
 use Rattle.view.specs.View.{view_of}
 use Rattle.view.specs.Given.{guard_words}
 use Rattle.view.specs.Long.{long}

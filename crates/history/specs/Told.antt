@@ -4,7 +4,9 @@ use Rattle.std.proofs.Common.{sym, ap, arith, get_or-set_same, get_or-set_other,
 use Rattle.std.proofs.Math.Decide.{ℕ_discrete}
 use Rattle.std.proofs.lemmas.Bool.{eqb-false}
 use Rattle.rules.specs.Sizes.{nodes, Settings}
-use Rattle.rules.specs.Pc.{Pc, code}
+use Rattle.rules.specs.Pc.{code}
+use Rattle.rules.specs.declared.pc.Pc.{Pc}
+use Rattle.rules.specs.declared.pc.Pc.TheVariants as Pc
 use Rattle.rules.specs.Places
 use Rattle.rules.specs.Places.{accesses, does, stores, also_stores, finishes}
 use Rattle.rules.specs.declared.Row.{Row}

@@ -5,14 +5,18 @@
 ghost use Rattle.std.specs.Prelude.{◌≡◌};
 ghost use Rattle.rules.specs.Sizes.{base};
 ghost use Rattle.rules.specs.Step.{lent, out, answer, step_of};
-ghost use Rattle.rules.specs.Start.{start_of};
+ghost use Rattle.rules.specs.Answers.{answer_of};
+ghost use Rattle.tables.specs.Lent.{held, AreSame};
 ghost use Rattle.frames.specs.Frames.{fields, framed};
 ghost use Rattle.kevrespil.specs.Call.{begun};
 
 use frames::Line;
-use rules::Operation;
+use machine::start::start;
+use machine::step::step;
+use rules::answer::{Answer, Outcome, Refusal};
+use tables::Lent;
 
-// What comes back: document 01's number and value.
+// What comes back: an answer's number and value, by numbers since C reads it.
 #[repr(C)]
 #[derive(Drop)]
 pub struct Reply {
@@ -20,52 +24,27 @@ pub struct Reply {
     pub value: u64,
 }
 
-fn started(
-    ids: &mut [u32],
-    next: &mut [u32],
-    state: &mut [u32],
-    words: &mut [u64],
-    guards: &mut [u64],
-    t: u32,
-    o: Operation,
-) -> Reply
-    ensures { out (answer result.number result.value) (lent ids.new next.new state.new words.new guards.new) ≡ start_of base (lent ids.old next.old state.old words.old guards.old) t o }
-{
-    let a = machine::start::start(ids, next, state, words, guards, t, o);
-    Reply {
-        number: a.number,
-        value: a.value,
+impl From<Result<Outcome, Refusal>> for Reply {
+    ghost use Rattle.std.specs.Prelude.{◌≡◌};
+    ghost use Rattle.rules.specs.Answers.{answer, answer_of};
+
+    ghost from_gives = { λ r a. answer a.number a.value ≡ answer_of r };
+
+    fn from(r: Result<Outcome, Refusal>) -> Reply {
+        let Answer { number, value } = Answer::from(r);
+        Reply { number, value }
     }
 }
 
-// A line that is no start is refused by 28, as a bad frame is.
+// A line that is no start is refused as a bad frame is.
 #[tactic(auto, unfolding(crate::specs::Call::begun))]
-fn begin(
-    ids: &mut [u32],
-    next: &mut [u32],
-    state: &mut [u32],
-    words: &mut [u64],
-    guards: &mut [u64],
-    l: Line,
-) -> Reply
-    ensures { out (answer result.number result.value) (lent ids.new next.new state.new words.new guards.new) ≡ begun base (lent ids.old next.old state.old words.old guards.old) l }
+fn begin(tables: &mut Lent, l: Line) -> Result<Outcome, Refusal>
+    ensures begin { out (answer_of result) (held tables.new) ≡ begun base (held tables.old) l }
+    ensures same { AreSame tables.old tables.new }
 {
     match l {
-        Line::Step {
-            thread,
-            flag,
-            clock,
-        } => Reply {
-            number: 28,
-            value: 0,
-        },
-        Line::Start { thread, operation } => started(
-            ids, next, state, words, guards, thread, operation,
-        ),
-        Line::Bad => Reply {
-            number: 28,
-            value: 0,
-        },
+        Line::Start { thread, operation } => start(tables, thread, operation),
+        Line::Step { .. } | Line::Bad => Err(Refusal::NoOperation),
     }
 }
 
@@ -84,8 +63,15 @@ pub fn kevrespil_start(
 ) -> Reply
     ensures { out (answer result.number result.value) (lent ids.new next.new state.new words.new guards.new) ≡ begun base (lent ids.old next.old state.old words.old guards.old) (framed (fields kind thread a b c)) }
 {
+    let mut tables = Lent {
+        ids,
+        next,
+        state,
+        words,
+        guards,
+    };
     let l = frames::line_by_kind(kind, thread, a, b, c);
-    begin(ids, next, state, words, guards, l)
+    Reply::from(begin(&mut tables, l))
 }
 
 // One step of a thread.
@@ -101,9 +87,12 @@ pub fn kevrespil_step(
 ) -> Reply
     ensures { out (answer result.number result.value) (lent ids.new next.new state.new words.new guards.new) ≡ step_of base (lent ids.old next.old state.old words.old guards.old) thread flag clock }
 {
-    let a = machine::step::step(ids, next, state, words, guards, thread, flag, clock);
-    Reply {
-        number: a.number,
-        value: a.value,
-    }
+    let mut tables = Lent {
+        ids,
+        next,
+        state,
+        words,
+        guards,
+    };
+    Reply::from(step(&mut tables, thread, flag, clock))
 }

@@ -1,4 +1,5 @@
-// The archive for C and for Rust: the two functions of the crate kevrespil under the names that C links.
+// The archive for C and for Rust: the two functions of the crate kevrespil under the names that C links, each with its contract, which an export
+// states by itself.
 #![tactic(auto)]
 
 ghost use Rattle.std.specs.Prelude.{◌≡◌};

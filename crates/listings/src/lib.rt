@@ -1,16 +1,28 @@
 // One line of the listing, and one line of numbers.
 #![tactic(auto)]
 
-use replays::Reply;
-use rules::{Row, kind};
-use sights::sight::{REFUSES, Sight};
-use sights::{seen, why};
+use frames::Line;
+use rows::load_row;
+use rules::answer::{Answer, Outcome, Refusal};
+use rules::kind::Kind;
+use rules::pc::Pc;
+use rules::{Access, Named, Row};
+use sights::saw::Saw;
+use sights::why::Why;
+use std::fmt;
+use std::fmt::Write;
+use tables::{Lent, address};
+use texts::Text;
 use words::names;
-use words::text::{byte, number, number_hex, put, right, say, say_number, shorter, show};
-use words::told::{BAD, START, STEP, Told};
+use words::names::{Accessed, Asked};
+use words::told::{Told, thread};
 
 // The columns, from 0.
+const LINE: usize = 1;
+
 const LINE_END: usize = 6;
+
+const THREAD: usize = 7;
 
 const THREAD_END: usize = 10;
 
@@ -20,281 +32,238 @@ const PURPOSE: usize = 19;
 
 const ACCESS: usize = 38;
 
-const CUT: usize = 62;
-
 const ANSWER: usize = 62;
+
+const ANSWER_END: usize = 64;
 
 const WORDS: usize = 65;
 
-// An argument, where an operation has it: `has` is an x at the operation's kind.
-fn argument(text: &mut [u8], at: usize, has: &[u8], kind: u32, name: &[u8], x: u64) -> usize {
-    if byte(has, kind as usize) == b'x' {
-        return say_number(text, at, name, x);
-    }
-    at
-}
+// How long a line of the listing may be.
+const LISTED: usize = 100;
 
-fn address(text: &mut [u8], at: usize, w: Told) -> usize {
-    if w.kind == kind::RETIRE {
-        let k = say_number(text, at, b" shard ", bits::shard(w.address) as u64);
-        let e = say(text, k, b" at 0x");
-        return number_hex(text, e, w.address);
-    }
-    at
-}
-
-// A start's arguments.
-fn arguments(text: &mut [u8], at: usize, w: Told) -> usize {
-    let k = argument(
-        text,
-        at,
-        b"  xxxxxx     ",
-        w.kind,
-        b" record ",
-        w.rec as u64,
-    );
-    let e = argument(
-        text,
-        k,
-        b"   xxx  x    ",
-        w.kind,
-        b" source ",
-        w.source as u64,
-    );
-    let f = argument(text, e, b"    xx xxx   ", w.kind, b" node ", w.node);
-    address(text, f, w)
-}
-
-fn start(text: &mut [u8], w: Told) -> usize {
-    say(text, NAME, b"start");
-    let k = names::operation(text, PURPOSE, w.kind);
-    arguments(text, k, w)
-}
-
-fn step(text: &mut [u8], row: Row) -> usize {
-    names::place(text, NAME, row.place);
-    names::purpose(text, PURPOSE, row.place);
-    names::access(text, ACCESS, row)
-}
-
-// What the line asks. The answer's columns are not its: a text that is too long is cut, and ends with dots.
-fn asked(text: &mut [u8], w: Told, row: Row, bytes: &[u8]) -> usize {
-    if w.form == START {
-        return start(text, w);
-    }
-    if w.form == STEP {
-        return step(text, row);
-    }
-    show(text, NAME, bytes)
-}
-
-fn ends(text: &mut [u8], at: usize, steps: u64) -> usize {
-    let k = say_number(text, at, b" (", steps);
-    if steps == 1 {
-        return say(text, k, b" step)");
-    }
-    say(text, k, b" steps)")
+// A line that was run: its number, its bytes and whether it has its newline; what it tells; its thread's row before it,
+// and what the row's step accesses; what the line was answered, and the steps that the thread's operation has taken.
+// Whether it is whole is a flag beside the bytes, since `replays::line_in` promises of such a flag.
+#[derive(Clone, Copy)]
+pub struct Ran<'a> {
+    pub number: u64,
+    pub bytes: &'a [u8],
+    pub is_whole: bool,
+    pub line: Line,
+    pub row: Row,
+    pub access: Access,
+    pub answer: Result<Outcome, Refusal>,
+    pub steps: u64,
 }
 
 // A node, which may be none.
-fn a_node(text: &mut [u8], at: usize, value: u64) -> usize {
-    if value == 0 {
-        return say(text, at, b"no node");
+#[derive(Clone, Copy)]
+struct Node(u64);
+
+impl fmt::Display for Node {
+    fn fmt<W: fmt::Write>(&self, f: &mut fmt::Formatter<W>) -> fmt::Result {
+        match self.0 {
+            0 => f.write_str("no node"),
+            n => write!(f, "node {n}"),
+        }
     }
-    say_number(text, at, b"node ", value)
 }
 
-fn held(text: &mut [u8], at: usize, value: u64) -> usize {
-    let k = say(text, at, b": ");
-    a_node(text, k, value)
-}
+// How many steps an operation took.
+#[derive(Clone, Copy)]
+struct Steps(u64);
 
-fn came_out(text: &mut [u8], at: usize, value: u64) -> usize {
-    let k = held(text, at, value);
-    say(text, k, b" came out")
-}
-
-fn reclaimed(text: &mut [u8], at: usize, value: u64) -> usize {
-    if value == 0 {
-        return say(text, at, b": none reclaimed");
+impl fmt::Display for Steps {
+    fn fmt<W: fmt::Write>(&self, f: &mut fmt::Formatter<W>) -> fmt::Result {
+        match self.0 {
+            1 => f.write_str(" (1 step)"),
+            n => write!(f, " ({n} steps)"),
+        }
     }
-    let k = say_number(text, at, b": ", value);
-    say(text, k, b" reclaimed")
 }
 
 // What an operation gives.
-fn result(text: &mut [u8], at: usize, k: u32, value: u64) -> usize {
-    match k {
-        kind::ACQUIRE => say_number(text, at, b": record ", value),
-        kind::PROTECT | kind::TRY | kind::TRY_PROTECT => held(text, at, value),
-        kind::SWAP => came_out(text, at, value),
-        kind::RETIRE | kind::EAGER | kind::SHUTDOWN => reclaimed(text, at, value),
-        _ => at,
-    }
+#[derive(Clone, Copy)]
+struct Given {
+    kind: u32,
+    value: u64,
 }
 
-fn done(text: &mut [u8], at: usize, k: u32, value: u64, steps: u64) -> usize {
-    let e = say(text, at, b"done");
-    let f = result(text, e, k, value);
-    ends(text, f, steps)
-}
-
-fn retry(text: &mut [u8], at: usize, value: u64, steps: u64) -> usize {
-    let e = say(text, at, b"retry: ");
-    let f = a_node(text, e, value);
-    let g = say(text, f, b" seen");
-    ends(text, g, steps)
-}
-
-// Where a step goes on, and what it saw.
-fn goes_on(text: &mut [u8], at: usize, flag: bool, row: Row, after: Row, x: u64) -> usize {
-    let k = say(text, at, b"goes on to ");
-    let e = names::place(text, k, after.place);
-    if flag {
-        return say(text, e, b" (failure asked)");
-    }
-    seen::seen(text, e, row, after, x)
-}
-
-fn reclaims(text: &mut [u8], at: usize, value: u64) -> usize {
-    let e = say_number(text, at, b"node ", value);
-    say(text, e, b" reclaimed")
-}
-
-// An answer that is no refusal, and is not 0.
-fn granted(text: &mut [u8], at: usize, w: Told, a: Reply, steps: u64) -> usize {
-    let n = a.number;
-    match n {
-        1 => say(text, at, b"started"),
-        2 => done(text, at, w.kind, a.value, steps),
-        3 => retry(text, at, a.value, steps),
-        _ => reclaims(text, at, a.value),
-    }
-}
-
-// Why a line was refused; 25 and 26 of a step end its operation.
-fn refused(
-    text: &mut [u8],
-    at: usize,
-    w: Told,
-    row: Row,
-    s: Sight,
-    a: Reply,
-    steps: u64,
-    bytes: &[u8],
-    whole: bool,
-) -> usize {
-    put(text, 0, b'*');
-    let k = say(text, at, b"REFUSED ");
-    if w.form == BAD {
-        return why::bad(text, k, bytes, whole);
-    }
-    let e = why::why(text, k, w, row, s, a.number);
-    if steps == 0 {
-        return e;
-    }
-    ends(text, e, steps)
-}
-
-// The line's number and its thread.
-fn left(text: &mut [u8], n: u64, w: Told) {
-    right(text, 1, LINE_END, n);
-    if w.form != BAD {
-        right(text, LINE_END + 1, THREAD_END, w.thread as u64);
-    }
-}
-
-// What stands to the left of the answer.
-fn question(text: &mut [u8], n: u64, w: Told, row: Row, bytes: &[u8]) {
-    left(text, n, w);
-    let e = asked(text, w, row, bytes);
-    if CUT <= e {
-        say(text, CUT - 3, b".. ");
-    }
-}
-
-// One line of the listing; its length.
-pub fn line(
-    text: &mut [u8],
-    n: u64,
-    w: Told,
-    row: Row,
-    after: Row,
-    s: Sight,
-    a: Reply,
-    steps: u64,
-    bytes: &[u8],
-    whole: bool,
-) -> usize {
-    let cut = shorter(CUT, text.len());
-    let from = 0usize;
-    let part = &mut text[from..cut];
-    question(part, n, w, row, bytes);
-    right(text, ANSWER, ANSWER + 2, a.number as u64);
-    let k = WORDS;
-    if a.number == 0 {
-        return goes_on(text, k, w.flag, row, after, s.loaded);
-    }
-    if a.number < REFUSES {
-        return granted(text, k, w, a, steps);
-    }
-    refused(text, k, w, row, s, a, steps, bytes, whole)
-}
-
-fn field(text: &mut [u8], at: usize, x: u64) -> usize {
-    let k = number(text, at, x);
-    put(text, k, b' ')
-}
-
-// The place of a step.
-fn place(w: Told, row: Row) -> u32 {
-    if w.form == STEP {
-        return row.place;
-    }
-    0
-}
-
-// The record whose hazard a step stored to.
-fn hazard(w: Told, row: Row, answer: u32) -> u32 {
-    if w.form == STEP {
-        if answer < REFUSES {
-            return names::hazard(row);
+impl fmt::Display for Given {
+    fn fmt<W: fmt::Write>(&self, f: &mut fmt::Formatter<W>) -> fmt::Result {
+        let value = self.value;
+        match Kind::try_from(self.kind) {
+            Ok(Kind::Acquire) => write!(f, ": record {value}"),
+            Ok(Kind::Protect | Kind::Try | Kind::TryProtect) => write!(f, ": {}", Node(value)),
+            Ok(Kind::Swap) => write!(f, ": {} came out", Node(value)),
+            Ok(Kind::Retire | Kind::Eager | Kind::Shutdown) if value == 0 => {
+                f.write_str(": none reclaimed")
+            }
+            Ok(Kind::Retire | Kind::Eager | Kind::Shutdown) => write!(f, ": {value} reclaimed"),
+            _ => Ok(()),
         }
-        return 0;
     }
-    0
 }
 
-// Who asks, and what.
-fn asker(text: &mut [u8], n: u64, w: Told, row: Row) -> usize {
-    let k = field(text, 0, n);
-    let e = field(text, k, w.thread as u64);
-    let f = field(text, e, w.form as u64);
-    let g = field(text, f, w.kind as u64);
-    field(text, g, place(w, row) as u64)
+// What a person can see of a byte.
+fn visible(b: u8) -> u8 {
+    match b {
+        b' '..=b'~' => b,
+        _ => b'?',
+    }
 }
 
-fn subject(text: &mut [u8], at: usize, w: Told) -> usize {
-    let k = field(text, at, w.rec as u64);
-    let e = field(text, k, w.source as u64);
-    field(text, e, w.node)
+// A number that ends before the column `end`, or begins at `column` where it is too long for that.
+fn right<const N: usize>(text: &mut Text<N>, column: usize, end: usize, x: u64) {
+    let mut digits = Text::<20>::new();
+    digits.number(x);
+    text.go_to(column.max(end.saturating_sub(digits.len())));
+    text.say(digits.as_bytes());
 }
 
-fn outcome(text: &mut [u8], at: usize, a: Reply) -> usize {
-    let k = field(text, at, a.number as u64);
-    field(text, k, a.value)
-}
+impl Ran<'_> {
+    // The answer's number and value. The value of a bad line is its own number.
+    fn numbered(&self) -> Answer {
+        match self.line {
+            Line::Bad => Answer {
+                number: Refusal::NoOperation.number(),
+                value: self.number,
+            },
+            _ => Answer::from(self.answer),
+        }
+    }
 
-fn counts(text: &mut [u8], at: usize, s: Sight) -> usize {
-    let k = field(text, at, s.count);
-    number(text, k, s.records)
-}
+    // What stands to the left of the answer. What is too long for that ends with dots.
+    fn question(&self) -> Text<ANSWER> {
+        let mut text = Text::new();
+        if self.answer.is_err() {
+            text.put(b'*');
+        }
+        right(&mut text, LINE, LINE_END, self.number);
+        if let Some(t) = thread(self.line) {
+            right(&mut text, THREAD, THREAD_END, u64::from(t));
+        }
+        text.go_to(NAME);
+        match self.line {
+            Line::Start { operation, .. } => {
+                text.say(b"start");
+                text.go_to(PURPOSE);
+                let _ = write!(text, "{}", Asked(operation));
+            }
+            Line::Step { .. } => {
+                let place = Pc::from(self.row.place);
+                text.say(names::place(place).as_bytes());
+                text.go_to(PURPOSE);
+                text.say(names::purpose(place).as_bytes());
+                text.go_to(ACCESS);
+                if place != Pc::Idle {
+                    let access = self.access;
+                    let _ = write!(text, "{}", Accessed { place, access });
+                }
+            }
+            Line::Bad => {
+                for b in self.bytes {
+                    text.put(visible(*b));
+                }
+            }
+        }
+        if text.len() == ANSWER {
+            text.go_to(ANSWER - 3);
+            text.say(b".. ");
+        }
+        text.go_to(ANSWER);
+        text
+    }
 
-// One line of numbers; its length.
-pub fn data(text: &mut [u8], n: u64, w: Told, row: Row, s: Sight, a: Reply) -> usize {
-    let k = asker(text, n, w, row);
-    let e = subject(text, k, w);
-    let f = field(text, e, hazard(w, row, a.number) as u64);
-    let g = outcome(text, f, a);
-    counts(text, g, s)
+    // Why the line was refused.
+    fn why(&self, tables: &Lent, refusal: Refusal) -> Why {
+        match self.line {
+            Line::Bad => Why::of_bytes(self.bytes, self.is_whole),
+            Line::Start { thread, operation } => {
+                Why::of_start(tables, thread, operation, self.row, refusal)
+            }
+            Line::Step { thread, .. } => Why::of_step(thread, self.row, refusal),
+        }
+    }
+
+    // What the line was answered. Of a step, where it goes on and what it saw; of a refusal that ends an operation, how
+    // many steps that took.
+    fn say_answer(&self, tables: &Lent, text: &mut Text<LISTED>) -> fmt::Result {
+        let steps = Steps(self.steps);
+        match self.answer {
+            Ok(Outcome::Stepped) => {
+                let after = load_row(tables, thread(self.line).unwrap_or(0));
+                write!(text, "goes on to {}", names::place(Pc::from(after.place)))?;
+                match self.line {
+                    Line::Step { flag: true, .. } => text.write_str(" (failure asked)"),
+                    _ => write!(text, "{}", Saw::of(tables, self.access, self.row, after)),
+                }
+            }
+            Ok(Outcome::Started) => text.write_str("started"),
+            Ok(Outcome::Done(value)) => {
+                let kind = Told::by_line(self.line, self.row).kind;
+                write!(text, "done{}{steps}", Given { kind, value })
+            }
+            Ok(Outcome::Retry(value)) => write!(text, "retry: {} seen{steps}", Node(value)),
+            Ok(Outcome::Reclaimed(value)) => write!(text, "node {value} reclaimed"),
+            Err(refusal) if self.steps == 0 => {
+                write!(text, "REFUSED {}", self.why(tables, refusal))
+            }
+            Err(refusal) => write!(text, "REFUSED {}{steps}", self.why(tables, refusal)),
+        }
+    }
+
+    // One line of the listing. A refusal changes nothing, and what a step loads it leaves, so that the tables behind the
+    // line show what it saw.
+    pub fn listed(&self, tables: &Lent) -> Text<LISTED> {
+        let mut text = Text::new();
+        text.say(self.question().as_bytes());
+        right(
+            &mut text,
+            ANSWER,
+            ANSWER_END,
+            u64::from(self.numbered().number),
+        );
+        text.go_to(WORDS);
+        // A text takes all that is written to it.
+        let _ = self.say_answer(tables, &mut text);
+        text
+    }
+
+    // One line of numbers.
+    pub fn number_line<const N: usize>(&self, tables: &Lent, text: &mut Text<N>) {
+        let told = Told::by_line(self.line, self.row);
+        let answer = self.numbered();
+        let form = match self.line {
+            Line::Step { .. } => 0,
+            Line::Start { .. } => 1,
+            Line::Bad => 2,
+        };
+        let (place, hazard) = match self.line {
+            Line::Step { .. } if self.answer.is_ok() => {
+                (self.row.place, names::hazard(self.access).unwrap_or(0))
+            }
+            Line::Step { .. } => (self.row.place, 0),
+            _ => (0, 0),
+        };
+        let others = [
+            u64::from(thread(self.line).unwrap_or(0)),
+            form,
+            u64::from(told.kind),
+            u64::from(place),
+            u64::from(told.rec),
+            u64::from(told.source),
+            told.node,
+            u64::from(hazard),
+            u64::from(answer.number),
+            answer.value,
+            tables.fetch(address(Named::Count)),
+            tables.fetch(address(Named::RecordCount)),
+        ];
+        text.number(self.number);
+        for x in others {
+            text.put(b' ');
+            text.number(x);
+        }
+    }
 }

@@ -1,2 +1,3 @@
 pub mod StepLaws
 pub mod StartLaws
+pub mod Told

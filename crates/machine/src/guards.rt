@@ -1,5 +1,5 @@
 // A thread's guarded set: its words are the part of the shared table that begins at word 64 x thread.
-ghost use Rattle.std.specs.Prelude.{◌≡◌, ◌<◌, length};
+ghost use Rattle.std.specs.Prelude.{◌≡◌, ◌+◌, ◌*◌, min, length};
 ghost use Rattle.rules.specs.Step.{guards_after, guards_of, guards_given};
 ghost use Rattle.rules.specs.Words.{is_guarded};
 
@@ -9,6 +9,7 @@ use rules::Guards;
 pub const WORDS: usize = 64;
 
 // What becomes of one set.
+#[tactic(auto, unfolding(rules::specs::Step::guards_after))]
 fn give(set: &mut [u64], g: Guards)
     ensures { set.new ≡ guards_after set.old g }
 {
@@ -19,20 +20,20 @@ fn give(set: &mut [u64], g: Guards)
     }
 }
 
+// What becomes of a thread's set; only as far as the words go.
+#[tactic(auto, unfolding(rules::specs::Step::guards_given))]
 pub fn guards_given(guards: &mut [u64], t: u32, g: Guards)
-    requires { (t < 16) × (length guards.old ≡ 1024) }
     ensures { guards.new ≡ guards_given guards.old t g }
 {
-    let a = t as usize * WORDS;
-    let z = a + WORDS;
+    let a = (t as usize * WORDS).min(guards.len());
+    let z = (a + WORDS).min(guards.len());
     give(&mut guards[a..z], g);
 }
 
 pub fn guarded_at(guards: &[u64], t: u32, n: u32) -> bool
-    requires { (t < 16) × (length guards.now ≡ 1024) }
     ensures { result ≡ is_guarded (guards_of guards.now t) n }
 {
-    let a = t as usize * WORDS;
-    let z = a + WORDS;
+    let a = (t as usize * WORDS).min(guards.len());
+    let z = (a + WORDS).min(guards.len());
     bits::is_guarded(&guards[a..z], n)
 }

@@ -1,140 +1,83 @@
 // What a thread's step reads, whether that is in range, and what the step then does.
-ghost use Rattle.std.specs.Prelude.{◌≡◌, ◌<◌, length};
-ghost use Rattle.base.specs.Pick.{both};
+ghost use Rattle.std.specs.Prelude.{◌≡◌};
+ghost use Rattle.base.specs.Pick.{pick};
 ghost use Rattle.rules.specs.Sizes.{base};
-ghost use Rattle.rules.specs.Step.{lent, seen, read_by, judge, judged, look_by, look_of};
+ghost use Rattle.rules.specs.Step.{seen, read_by, judged, look_of};
+ghost use Rattle.tables.specs.Lent.{held};
+ghost use Rattle.machine.specs.Told.{Told};
 
 use crate::guards::guarded_at;
+use rules::answer::Refusal;
 use rules::{Cell, Effect, Row, Seen};
+use tables::{Lent, accessed, address, cut, in_range};
 
-fn seen(x: u64, y: u64, untaken: u32, guarded: bool, t: u32, flag: bool, clock: u64) -> Seen
-    ensures { result ≡ seen x y untaken guarded t flag clock }
+// A step as it is asked for: whose it is, its flag, and the clock.
+#[derive(Clone, Copy)]
+pub struct Turn {
+    pub thread: u32,
+    pub flag: bool,
+    pub clock: u64,
+}
+
+fn seen(x: u64, y: u64, untaken: u32, guarded: bool, turn: Turn) -> Seen
+    ensures { result ≡ seen x y untaken guarded turn.thread turn.flag turn.clock }
 {
     Seen {
-        x: x,
-        v: (x % 4294967296) as u32,
-        y: y,
-        w: (y % 4294967296) as u32,
-        untaken: untaken,
-        guarded: guarded,
-        thread: t,
-        flag: flag,
-        clock: clock,
+        x,
+        v: cut(x),
+        y,
+        w: cut(y),
+        untaken,
+        guarded,
+        thread: turn.thread,
+        flag: turn.flag,
+        clock: turn.clock,
     }
 }
 
 // The row's step reads its cell c, and l beside it.
-fn read(
-    ids: &[u32],
-    next: &[u32],
-    state: &[u32],
-    words: &[u64],
-    guards: &[u64],
-    t: u32,
-    flag: bool,
-    clock: u64,
-    r: Row,
-    c: Cell,
-    l: Cell,
-    untaken: u32,
-) -> Seen
-    requires { (t < 16) × (length guards.now ≡ 1024) }
-    ensures { result ≡ read_by (lent ids.now next.now state.now words.now guards.now) t flag clock r c l untaken }
+#[tactic(auto, unfolding(rules::specs::Step::read_by, rules::specs::Step::lent))]
+fn read(tables: &Lent, turn: Turn, r: Row, c: Cell, l: Cell, untaken: u32) -> Seen
+    ensures { result ≡ read_by (held tables.now) turn.thread turn.flag turn.clock r c l untaken }
 {
-    let x = tables::fetch(ids, next, state, words, c);
-    let y = tables::fetch(ids, next, state, words, l);
-    let guarded = guarded_at(guards, t, places::first(r));
-    seen(x, y, untaken, guarded, t, flag, clock)
+    let guarded = guarded_at(tables.guards, turn.thread, places::first(r));
+    seen(tables.fetch(c), tables.fetch(l), untaken, guarded, turn)
 }
 
-fn all(a: bool, b: bool, c: bool, d: bool) -> bool
-    ensures { result ≡ both a (both b (both c d)) }
-{
-    if a {
-        if b {
-            if c {
-                return d;
-            }
-            return false;
-        }
-        return false;
-    }
-    false
-}
-
-// 25 and 26 come before 29.
-fn judge(r: Row, fits: bool, e: Effect) -> Effect
-    ensures { result ≡ judge r fits e }
-{
-    if e.number == 25 {
-        return e;
-    }
-    if e.number == 26 {
-        return e;
-    }
-    if fits {
-        return e;
-    }
-    effects::damaged(r)
-}
-
-// 29 where something that the step reads is out of its range, or a cell that it needs is none.
+// Damage where something that the step reads is out of its range, or a cell that it needs is none; a swap of a waiting
+// node and a want of records come before it.
+#[tactic(auto, unfolding(rules::specs::Step::judged))]
 fn judged(r: Row, fits: bool, c: Cell, l: Cell, i: Seen, e: Effect) -> Effect
     ensures { result ≡ judged r fits c l i e }
 {
-    let also = e.also;
-    let a = tables::address(also);
-    let of_a = a.class;
-    let of_c = c.class;
-    let of_l = l.class;
-    let here = tables::in_range(of_c, i.x);
-    let there = tables::in_range(of_l, i.y);
-    judge(r, all(fits, here, there, tables::in_range(of_a, 0)), e)
-}
-
-fn look_by(
-    ids: &[u32],
-    next: &[u32],
-    state: &[u32],
-    words: &[u64],
-    guards: &[u64],
-    t: u32,
-    flag: bool,
-    clock: u64,
-    r: Row,
-    c: Cell,
-    l: Cell,
-    untaken: u32,
-) -> Effect
-    requires { (t < 16) × (length guards.now ≡ 1024) }
-    ensures { result ≡ look_by base (lent ids.now next.now state.now words.now guards.now) t flag clock r c l untaken }
-{
-    let fits = rows::row_fits(ids, t);
-    let i = read(
-        ids, next, state, words, guards, t, flag, clock, r, c, l, untaken,
-    );
-    judged(r, fits, c, l, i, places::effect(r, i))
+    let ends = e.number == Refusal::NotRetirable as u32 || e.number == Refusal::NoRecords as u32;
+    let sound = fits
+        && in_range(c.class, i.x)
+        && in_range(l.class, i.y)
+        && in_range(address(e.also).class, 0);
+    if ends || sound {
+        e
+    } else {
+        effects::damaged(r)
+    }
 }
 
 // What the step of a thread with this row does.
-pub fn look(
-    ids: &[u32],
-    next: &[u32],
-    state: &[u32],
-    words: &[u64],
-    guards: &[u64],
-    t: u32,
-    flag: bool,
-    clock: u64,
-    r: Row,
-) -> Effect
-    requires { (t < 16) × (length guards.now ≡ 1024) }
-    ensures { result ≡ look_of base (lent ids.now next.now state.now words.now guards.now) t flag clock r }
+#[tactic(auto, unfolding(rules::specs::Step::look_of, rules::specs::Step::look_by, rules::specs::Step::lent))]
+pub fn look(tables: &Lent, turn: Turn, r: Row) -> Effect
+    ensures does { result ≡ look_of base (held tables.now) turn.thread turn.flag turn.clock r }
+    ensures told { Told result }
 {
-    let untaken = rows::untaken(ids, r.place);
-    let c = tables::accessed(places::access(r));
-    let l = tables::address(places::follow(r, untaken));
-    look_by(
-        ids, next, state, words, guards, t, flag, clock, r, c, l, untaken,
+    let untaken = rows::untaken(tables.ids, r.place);
+    let c = accessed(places::access(r));
+    let l = address(places::follow(r, untaken));
+    let i = read(tables, turn, r, c, l, untaken);
+    judged(
+        r,
+        rows::row_fits(tables.ids, turn.thread),
+        c,
+        l,
+        i,
+        places::effect(r, i),
     )
 }

@@ -1,154 +1,131 @@
 // One step of a thread.
-ghost use Rattle.std.specs.Prelude.{◌≡◌, ◌<◌, length, eqb};
-ghost use Rattle.rules.specs.Sizes.{base};
-ghost use Rattle.rules.specs.Step.{lent, out, given, take_of, step_in, step_of};
-ghost use Rattle.base.specs.Pick.{both};
+ghost use Rattle.std.specs.Prelude.{◌≡◌, ◌*◌, eqb, ltb, leb, slice_index};
+ghost use Rattle.base.specs.Pick.{both, pick};
+ghost use Rattle.rules.specs.Answers.{answer, answer_of, refusal_of};
+ghost use Rattle.rules.specs.Sizes.{base, threads, steps, row32};
+ghost use Rattle.rules.specs.Pc.{code};
+ghost use Rattle.rules.specs.Step.{sizes, out, given, take_of, step_of};
+ghost use Rattle.tables.specs.Lent.{held, AreSame};
+ghost use Rattle.machine.specs.Told.{Told};
 
 use crate::guards::{WORDS, guards_given};
-use crate::look::look;
-use rules::{Answer, COUNTER_CELLS, Cell, Effect, FROM_ROWS, NODES, THREADS};
+use crate::look::{Turn, look};
+use rows::{ROW32, ROW64};
+use rules::answer::{Outcome, Refusal};
+use rules::pc::Pc;
+use rules::{COUNTER_CELLS, Cell, Effect, FROM_ROWS, NODES, STEPS, THREADS};
+use tables::{Lent, STEPS_TAKEN, accessed, counter};
 
 // The sizes of the tables.
-const IDS: usize = FROM_ROWS + rows::ROW32 * THREADS as usize;
+pub const IDS: usize = FROM_ROWS + ROW32 * THREADS as usize;
 
-const NODE_CELLS: usize = NODES as usize;
+pub const NODE_CELLS: usize = NODES as usize;
 
-const SUMS: usize = COUNTER_CELLS + rows::ROW64 * THREADS as usize;
+pub const SUMS: usize = COUNTER_CELLS + ROW64 * THREADS as usize;
 
-const GUARD_WORDS: usize = WORDS * THREADS as usize;
+pub const GUARD_WORDS: usize = WORDS * THREADS as usize;
 
-// A step's effect is applied to the tables.
-fn give(
-    ids: &mut [u32],
-    next: &mut [u32],
-    state: &mut [u32],
-    words: &mut [u64],
-    guards: &mut [u64],
-    t: u32,
-    c: Cell,
-    e: Effect,
-)
-    requires { (t < 16) × (length guards.old ≡ 1024) }
-    ensures { (lent ids.new next.new state.new words.new guards.new) ≡ given (lent ids.old next.old state.old words.old guards.old) t c e }
-{
-    tables::cells_given(ids, next, state, words, c, e);
-    rows::store_row(ids, words, t, e.row);
-    let g = e.guards;
-    guards_given(guards, t, g);
-}
-
-// A step of a thread that is inside an operation.
-fn take(
-    ids: &mut [u32],
-    next: &mut [u32],
-    state: &mut [u32],
-    words: &mut [u64],
-    guards: &mut [u64],
-    t: u32,
-    flag: bool,
-    clock: u64,
-) -> Answer
-    requires { (t < 16) × (length guards.old ≡ 1024) }
-    ensures { out result (lent ids.new next.new state.new words.new guards.new) ≡ take_of base (lent ids.old next.old state.old words.old guards.old) t flag clock }
-{
-    let r = rows::load_row(ids, words, t);
-    let c = tables::accessed(places::access(r));
-    let e = look(ids, next, state, words, guards, t, flag, clock, r);
-    let damaged = e.number == 29;
-    if damaged {
-        return Answer {
-            number: 29,
-            value: 0,
-        };
-    }
-    give(ids, next, state, words, guards, t, c, e);
-    Answer {
-        number: e.number,
-        value: e.value,
-    }
-}
-
-// 19 and 21.
-fn step_in(
-    ids: &mut [u32],
-    next: &mut [u32],
-    state: &mut [u32],
-    words: &mut [u64],
-    guards: &mut [u64],
-    t: u32,
-    flag: bool,
-    clock: u64,
-) -> Answer
-    requires { (t < 16) × (length guards.old ≡ 1024) }
-    ensures { out result (lent ids.new next.new state.new words.new guards.new) ≡ step_in base (lent ids.old next.old state.old words.old guards.old) t flag clock }
-{
-    let steps = tables::counter(words, 4);
-    let place = tables::id_from(ids, FROM_ROWS, t as usize * rows::ROW32);
-    if rules::STEPS <= steps {
-        return Answer {
-            number: 19,
-            value: 0,
-        };
-    }
-    if place == rules::place::IDLE {
-        return Answer {
-            number: 21,
-            value: 0,
-        };
-    }
-    take(ids, next, state, words, guards, t, flag, clock)
-}
-
-// Whether the tables have their sizes.
+// Whether the tables have their sizes. It is promised for any five lengths, also of tables that nobody lends.
 pub fn sized(ids: usize, next: usize, state: usize, words: usize, guards: usize) -> bool
     ensures { result ≡ both (eqb ids 4507) (both (eqb next 4096) (both (eqb state 4096) (both (eqb words 85) (eqb guards 1024)))) }
 {
-    if ids == IDS {
-        if next == NODE_CELLS {
-            if state == NODE_CELLS {
-                if words == SUMS {
-                    return guards == GUARD_WORDS;
-                }
-                return false;
-            }
-            return false;
-        }
-        return false;
-    }
-    false
+    ids == IDS
+        && next == NODE_CELLS
+        && state == NODE_CELLS
+        && words == SUMS
+        && guards == GUARD_WORDS
 }
 
-// 16 and 17, then the step of a thread.
-pub fn step(
-    ids: &mut [u32],
-    next: &mut [u32],
-    state: &mut [u32],
-    words: &mut [u64],
-    guards: &mut [u64],
-    t: u32,
-    flag: bool,
-    clock: u64,
-) -> Answer
-    ensures { out result (lent ids.new next.new state.new words.new guards.new) ≡ step_of base (lent ids.old next.old state.old words.old guards.old) t flag clock }
+// The tables are to have their sizes, and the thread to be one.
+pub(crate) fn admit(tables: &Lent, t: u32) -> Result<(), Refusal>
+    ensures { refusal_of result ≡ pick (sizes (held tables.now)) (pick (ltb t threads) 0 17) 16 }
 {
-    let ok = sized(
-        ids.len(),
-        next.len(),
-        state.len(),
-        words.len(),
-        guards.len(),
+    let fit = sized(
+        tables.ids.len(),
+        tables.next.len(),
+        tables.state.len(),
+        tables.words.len(),
+        tables.guards.len(),
     );
-    if ok {
-        if t < THREADS {
-            return step_in(ids, next, state, words, guards, t, flag, clock);
-        }
-        return Answer {
-            number: 17,
-            value: 0,
-        };
+    if !fit {
+        return Err(Refusal::TableSize);
     }
-    Answer {
-        number: 16,
-        value: 0,
+    if t >= THREADS {
+        return Err(Refusal::Thread);
     }
+    Ok(())
+}
+
+// There are to be steps left, and the thread is to be inside an operation.
+#[tactic(auto, unfolding(rules::specs::Step::lent, rules::specs::Step::part))]
+fn ready(tables: &Lent, t: u32) -> Result<(), Refusal>
+    ensures { refusal_of result ≡ pick (leb steps (slice_index (held tables.now).cells.counters 4)) 19 (pick (eqb (slice_index (held tables.now).rows32 (t * row32)) (code Pc.Idle)) 21 0) }
+{
+    if counter(tables.words, STEPS_TAKEN) >= STEPS {
+        return Err(Refusal::StepLimit);
+    }
+    if rows::place(tables, t) == Pc::Idle as u32 {
+        return Err(Refusal::Idle);
+    }
+    Ok(())
+}
+
+// A step's effect is applied to the tables.
+#[tactic(auto, unfolding(rules::specs::Step::given, rules::specs::Step::lent))]
+fn give(tables: &mut Lent, t: u32, c: Cell, e: Effect)
+    ensures does { held tables.new ≡ given (held tables.old) t c e }
+    ensures same { AreSame tables.old tables.new }
+{
+    tables.cells_given(c, e);
+    rows::store_row(tables, t, e.row);
+    guards_given(tables.guards, t, e.guards);
+}
+
+// What an effect answers. It has its numbers, since theorems speak of any rules::Effect.
+fn told(e: Effect) -> Result<Outcome, Refusal>
+    requires { Told e }
+    ensures { answer_of result ≡ answer e.number e.value }
+{
+    match e.number {
+        0 => Ok(Outcome::Stepped),
+        2 => Ok(Outcome::Done(e.value)),
+        3 => Ok(Outcome::Retry(e.value)),
+        4 => Ok(Outcome::Reclaimed(e.value)),
+        n if n == Refusal::NotRetirable as u32 => Err(Refusal::NotRetirable),
+        n if n == Refusal::NoRecords as u32 => Err(Refusal::NoRecords),
+        n if n == Refusal::OutOfRange as u32 => Err(Refusal::OutOfRange),
+        _ => unreachable!(),
+    }
+}
+
+// A step of a thread that is inside an operation.
+#[tactic(auto, unfolding(rules::specs::Step::take_of, rules::specs::Step::lent))]
+fn take(tables: &mut Lent, turn: Turn) -> Result<Outcome, Refusal>
+    ensures does { out (answer_of result) (held tables.new) ≡ take_of base (held tables.old) turn.thread turn.flag turn.clock }
+    ensures same { AreSame tables.old tables.new }
+{
+    let r = rows::load_row(tables, turn.thread);
+    let c = accessed(places::access(r));
+    let e = look(tables, turn, r);
+    if e.number == Refusal::OutOfRange as u32 {
+        return Err(Refusal::OutOfRange);
+    }
+    give(tables, turn.thread, c, e);
+    told(e)
+}
+
+// The step of a thread.
+#[tactic(auto, unfolding(rules::specs::Step::step_of, rules::specs::Step::step_in))]
+pub fn step(tables: &mut Lent, t: u32, flag: bool, clock: u64) -> Result<Outcome, Refusal>
+    ensures step { out (answer_of result) (held tables.new) ≡ step_of base (held tables.old) t flag clock }
+    ensures same { AreSame tables.old tables.new }
+{
+    admit(tables, t)?;
+    ready(tables, t)?;
+    let turn = Turn {
+        thread: t,
+        flag,
+        clock,
+    };
+    take(tables, turn)
 }

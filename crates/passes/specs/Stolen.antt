@@ -1,4 +1,4 @@
--- How the loop over the stolen heads meets the search that the rules define.
+-- How a search that has come to i meets the search of the stolen heads that the rules define.
 use Rattle.std.specs.Prelude.{◌≡◌, ℕ, ◌+◌, ◌<◌, ◌≤◌, List, ◌≢◌, slice_index}
 use Rattle.std.proofs.Math.Path.{sym}
 use Rattle.std.proofs.Common.{◌∙◌, eq-eqb, ne_eqb}

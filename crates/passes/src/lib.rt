@@ -3,21 +3,21 @@
 
 ghost use Rattle.std.specs.Prelude.{◌≡◌, ◌-◌, ◌==◌};
 ghost use Rattle.rules.specs.Sizes.{base};
-ghost use Rattle.rules.specs.Places.{checked, passed, emptied, examine_at, examine_from, examined, after_free, shut_next, new_pass};
-ghost use Rattle.rules.specs.Rows.{go_to, stolen_from, freed};
-ghost use Rattle.rules.specs.Pc;
+ghost use Rattle.rules.specs.Places.{checked, passed, emptied, examine_from, examined, after_free, shut_next, new_pass};
+ghost use Rattle.rules.specs.Rows.{stolen_from, freed};
 ghost use Rattle.base.specs.Pick.{pick};
 
-use rules::{Row, SHARDS, place};
+use rules::pc::Pc;
+use rules::{Done, Row, SHARDS};
 
 // A new pass steals from shard 0 on.
 pub fn new_pass(r: Row) -> Row
     ensures { result ≡ new_pass r }
 {
-    let mut s = r;
-    s.place = place::STEAL;
-    s.shard = 0;
-    s
+    Row {
+        shard: 0,
+        ..r.go_to(Pc::Steal)
+    }
 }
 
 // After Check, whose value is the row's rcount: a retire before its Reclaim, or the end of a pass.
@@ -25,23 +25,13 @@ pub fn new_pass(r: Row) -> Row
 pub fn checked(r: Row) -> Row
     ensures { result ≡ checked r }
 {
-    let mut s = r;
-    if r.done == 0 {
-        if r.rcount == 0 {
-            s.place = place::E1;
-            return s;
-        }
-        s.place = place::B1;
-        return s;
+    if r.done == Done::NotYet as u32 {
+        r.go_to(if r.rcount == 0 { Pc::E1 } else { Pc::B1 })
+    } else if r.rcount == 0 && r.done == Done::Empty as u32 {
+        r.go_to(Pc::C3)
+    } else {
+        new_pass(r)
     }
-    if r.rcount == 0 {
-        if r.done == 2 {
-            s.place = place::C3;
-            return s;
-        }
-        return new_pass(s);
-    }
-    new_pass(s)
 }
 
 // C1 only if there is something to give back.
@@ -49,13 +39,7 @@ pub fn checked(r: Row) -> Row
 pub fn passed(r: Row) -> Row
     ensures { result ≡ passed r }
 {
-    let mut s = r;
-    if r.rcount == 0 {
-        s.place = place::K1;
-        return s;
-    }
-    s.place = place::C1;
-    s
+    r.go_to(if r.rcount == 0 { Pc::K1 } else { Pc::C1 })
 }
 
 // The kept list, if any, is pushed first.
@@ -63,41 +47,20 @@ pub fn passed(r: Row) -> Row
 pub fn emptied(r: Row) -> Row
     ensures { result ≡ emptied r }
 {
-    let mut s = r;
     if r.unreclaimed == 0 {
-        return passed(s);
+        passed(r)
+    } else {
+        r.go_to(Pc::Push1)
     }
-    s.place = place::PUSH1;
-    s
 }
 
-// The first shard from `from` on with a stolen list; past the last, if there is none.
+// The first shard from `from` on with a stolen list; past the last, if there is none: a number, as the rules' search has it.
 pub fn next_stolen(stolen: [u32; 8], from: u32) -> u32
     ensures { result ≡ stolen_from stolen from (8 - from) }
 {
-    let mut k = from;
-    while k < SHARDS {
-        let j = k as usize;
-        if stolen[j] != 0 {
-            return k;
-        }
-        k = k + 1;
-    }
-    k
-}
-
-fn examine_at(r: Row, k: u32) -> Row
-    ensures { result ≡ examine_at base k r }
-{
-    let mut s = r;
-    if k == SHARDS {
-        s.place = place::EMPTY;
-        s.shard = 0;
-        return s;
-    }
-    s.place = place::EXAMINE;
-    s.shard = k;
-    s
+    (from..SHARDS)
+        .find(|&k| stolen[k as usize] != 0)
+        .unwrap_or(from.max(SHARDS))
 }
 
 // The next shard with a stolen list, from `from` on; after the last, the test for done.
@@ -105,22 +68,16 @@ fn examine_at(r: Row, k: u32) -> Row
 pub fn examine_from(r: Row, from: u32) -> Row
     ensures { result ≡ examine_from base from r }
 {
-    let stolen = r.stolen;
-    examine_at(r, next_stolen(stolen, from))
-}
-
-fn examined_by(r: Row, rest: u32, on: Row) -> Row
-    ensures { result ≡ pick (rest == 0) (pick (r.reclaimable == 0) on (go_to Pc.Reclaim r)) r }
-{
-    let mut s = r;
-    if rest == 0 {
-        if r.reclaimable == 0 {
-            return on;
-        }
-        s.place = place::RECLAIM;
-        return s;
+    match next_stolen(r.stolen, from) {
+        SHARDS => Row {
+            shard: 0,
+            ..r.go_to(Pc::Empty)
+        },
+        shard => Row {
+            shard,
+            ..r.go_to(Pc::Examine)
+        },
     }
-    s
 }
 
 // A node was examined, and `rest` is what is left of its list.
@@ -128,25 +85,23 @@ fn examined_by(r: Row, rest: u32, on: Row) -> Row
 pub fn examined(r: Row, rest: u32) -> Row
     ensures { result ≡ examined base rest r }
 {
-    examined_by(r, rest, examine_from(r, r.shard % SHARDS + 1))
-}
-
-fn reclaimed_by(r: Row, rest: u32, on: Row) -> Row
-    ensures { result ≡ pick (rest == 0) on r }
-{
-    if rest == 0 {
-        return on;
+    if rest != 0 {
+        r
+    } else if r.reclaimable != 0 {
+        r.go_to(Pc::Reclaim)
+    } else {
+        examine_from(r, r.shard_in() + 1)
     }
-    r
 }
 
 // One node more in the total that the operation answers.
 pub fn freed(r: Row) -> Row
     ensures { result ≡ freed r }
 {
-    let mut s = r;
-    s.total = std::num::wrapping_add_u64(r.total, 1);
-    s
+    Row {
+        total: r.total.wrapping_add(1),
+        ..r
+    }
 }
 
 // A node was reclaimed, and `rest` is what is left of its list.
@@ -154,7 +109,11 @@ pub fn freed(r: Row) -> Row
 pub fn reclaimed(r: Row, rest: u32) -> Row
     ensures { result ≡ after_free base rest r }
 {
-    reclaimed_by(r, rest, examine_from(r, r.shard % SHARDS + 1))
+    if rest == 0 {
+        examine_from(r, r.shard_in() + 1)
+    } else {
+        r
+    }
 }
 
 // Shutdown's next shard, or its last step.
@@ -162,20 +121,18 @@ pub fn reclaimed(r: Row, rest: u32) -> Row
 pub fn shut_next(r: Row) -> Row
     ensures { result ≡ shut_next base r }
 {
-    let mut s = r;
-    let k = r.shard % SHARDS + 1;
-    if k == SHARDS {
-        s.place = place::S3;
-        return s;
+    match r.shard_in() + 1 {
+        SHARDS => r.go_to(Pc::S3),
+        shard => Row {
+            shard,
+            ..r.go_to(Pc::S1)
+        },
     }
-    s.place = place::S1;
-    s.shard = k;
-    s
 }
 
 // A node was reclaimed by shutdown.
 pub fn shut_reclaimed(r: Row, rest: u32) -> Row
     ensures { result ≡ pick (rest == 0) (shut_next base r) r }
 {
-    reclaimed_by(r, rest, shut_next(r))
+    if rest == 0 { shut_next(r) } else { r }
 }

@@ -4,7 +4,8 @@ use Rattle.std.proofs.Math.Path.{ap}
 use Rattle.std.proofs.Common.{sym, ◌∙◌}
 use Rattle.std.proofs.Math.ListN.{get_or-eq_default}
 use Rattle.rules.specs.Sizes.{Settings}
-use Rattle.rules.specs.Pc.{Pc, order, pc_of}
+use Rattle.rules.specs.Pc.{order, pc_of}
+use Rattle.rules.specs.declared.pc.Pc.{Pc}
 use Rattle.rules.specs.Places.{accesses, access_of, does, effect_of, damaged}
 use Rattle.rules.specs.declared.Row.{Row}
 use Rattle.rules.specs.declared.Seen.{Seen}

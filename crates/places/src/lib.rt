@@ -6,14 +6,14 @@ ghost use Rattle.rules.specs.Places.{access_of, effect_of, follow_of};
 ghost use Rattle.rules.specs.Sizes.{base};
 ghost use Rattle.rules.specs.Rows.{first};
 
-use rules::{Access, Effect, Named, Row, SHARDS, Seen, place};
+use rules::pc::Pc;
+use rules::{Access, Effect, Named, Row, Seen};
 
 // The first stolen node of the row's shard.
 pub fn first(r: Row) -> u32
     ensures { result ≡ first r }
 {
-    let k = (r.shard % SHARDS) as usize;
-    r.stolen[k]
+    r.first()
 }
 
 // The access that a row's step makes.
@@ -21,136 +21,122 @@ pub fn first(r: Row) -> u32
 pub fn access(r: Row) -> Access
     ensures { result ≡ access_of r }
 {
-    let at = r.place;
-    match at {
-        place::IDLE => Access::Load(Named::Nothing),
-        place::A1 => Access::Load(Named::HeadAvailable),
-        place::A2 => Access::Update(Named::HeadAvailable),
-        place::A3 => Access::Load(Named::AvailableNext(r.rec)),
-        place::A4 => Access::Store(Named::HeadAvailable),
-        place::A5 => Access::Store(Named::AvailableNext(r.rec)),
-        place::A6 => Access::Load(Named::AvailableNext(r.rec)),
-        place::N1 => Access::Load(Named::RecordHead),
-        place::N2 => Access::Update(Named::RecordHead),
-        place::N3 => Access::Update(Named::RecordCount),
-        place::D1 => Access::HazardStore(Named::Hazard(r.rec)),
-        place::D2 => Access::Load(Named::AvailableNext(r.rec)),
-        place::P1 => Access::Load(Named::HeadAvailable),
-        place::P2 => Access::Store(Named::AvailableNext(r.rec)),
-        place::P3 => Access::Update(Named::HeadAvailable),
-        place::V0 => Access::Load(Named::Source(r.source)),
-        place::V1 => Access::HazardStore(Named::Hazard(r.rec)),
-        place::V2 => Access::Load(Named::Source(r.source)),
-        place::V3 => Access::HazardStore(Named::Hazard(r.rec)),
-        place::RESET => Access::HazardStore(Named::Hazard(r.rec)),
-        place::RAW => Access::HazardStore(Named::Hazard(r.rec)),
-        place::SWAP => Access::Update(Named::Source(r.source)),
-        place::T1 => Access::Load(Named::ShardHead(r.shard)),
-        place::T2 => Access::Update(Named::ShardHead(r.shard)),
-        place::T3 => Access::Update(Named::Count),
-        place::K1 => Access::Load(Named::Count),
-        place::K2 => Access::Load(Named::RecordCount),
-        place::K3 => Access::Update(Named::Count),
-        place::K4 => Access::Store(Named::DueTime),
-        place::E1 => Access::Load(Named::DueTime),
-        place::E2 => Access::Update(Named::DueTime),
-        place::E3 => Access::Update(Named::Count),
-        place::B1 => Access::Update(Named::BulkReclaims),
-        place::STEAL => Access::Update(Named::ShardHead(r.shard)),
-        place::H1 => Access::Load(Named::RecordHead),
-        place::H2 => Access::Load(Named::Hazard(r.rec)),
-        place::EXAMINE => Access::Private(Named::NodeNext(first(r))),
-        place::RECLAIM => Access::Private(Named::NodeNext(r.reclaimable)),
-        place::EMPTY => Access::Load(Named::ShardHead(r.shard)),
-        place::PUSH1 => Access::Load(Named::ShardHead(0)),
-        place::PUSH2 => Access::Update(Named::ShardHead(0)),
-        place::C1 => Access::Update(Named::Count),
-        place::C3 => Access::Update(Named::BulkReclaims),
-        place::WAIT => Access::Load(Named::BulkReclaims),
-        place::S1 => Access::Update(Named::ShardHead(r.shard)),
-        place::S2 => Access::Private(Named::NodeNext(r.reclaimable)),
-        place::S3 => Access::Store(Named::Shutdown),
-        _ => Access::Load(Named::Nothing),
+    match Pc::from(r.place) {
+        Pc::Idle | Pc::Unknown => Access::Load(Named::Nothing),
+        Pc::A1 => Access::Load(Named::HeadAvailable),
+        Pc::A2 => Access::Update(Named::HeadAvailable),
+        Pc::A3 => Access::Load(Named::AvailableNext(r.rec)),
+        Pc::A4 => Access::Store(Named::HeadAvailable),
+        Pc::A5 => Access::Store(Named::AvailableNext(r.rec)),
+        Pc::A6 => Access::Load(Named::AvailableNext(r.rec)),
+        Pc::N1 => Access::Load(Named::RecordHead),
+        Pc::N2 => Access::Update(Named::RecordHead),
+        Pc::N3 => Access::Update(Named::RecordCount),
+        Pc::D1 => Access::HazardStore(Named::Hazard(r.rec)),
+        Pc::D2 => Access::Load(Named::AvailableNext(r.rec)),
+        Pc::P1 => Access::Load(Named::HeadAvailable),
+        Pc::P2 => Access::Store(Named::AvailableNext(r.rec)),
+        Pc::P3 => Access::Update(Named::HeadAvailable),
+        Pc::V0 => Access::Load(Named::Source(r.source)),
+        Pc::V1 => Access::HazardStore(Named::Hazard(r.rec)),
+        Pc::V2 => Access::Load(Named::Source(r.source)),
+        Pc::V3 => Access::HazardStore(Named::Hazard(r.rec)),
+        Pc::Reset => Access::HazardStore(Named::Hazard(r.rec)),
+        Pc::Raw => Access::HazardStore(Named::Hazard(r.rec)),
+        Pc::Swap => Access::Update(Named::Source(r.source)),
+        Pc::T1 => Access::Load(Named::ShardHead(r.shard)),
+        Pc::T2 => Access::Update(Named::ShardHead(r.shard)),
+        Pc::T3 => Access::Update(Named::Count),
+        Pc::K1 => Access::Load(Named::Count),
+        Pc::K2 => Access::Load(Named::RecordCount),
+        Pc::K3 => Access::Update(Named::Count),
+        Pc::K4 => Access::Store(Named::DueTime),
+        Pc::E1 => Access::Load(Named::DueTime),
+        Pc::E2 => Access::Update(Named::DueTime),
+        Pc::E3 => Access::Update(Named::Count),
+        Pc::B1 => Access::Update(Named::BulkReclaims),
+        Pc::Steal => Access::Update(Named::ShardHead(r.shard)),
+        Pc::H1 => Access::Load(Named::RecordHead),
+        Pc::H2 => Access::Load(Named::Hazard(r.rec)),
+        Pc::Examine => Access::Private(Named::NodeNext(r.first())),
+        Pc::Reclaim => Access::Private(Named::NodeNext(r.reclaimable)),
+        Pc::Empty => Access::Load(Named::ShardHead(r.shard)),
+        Pc::Push1 => Access::Load(Named::ShardHead(0)),
+        Pc::Push2 => Access::Update(Named::ShardHead(0)),
+        Pc::C1 => Access::Update(Named::Count),
+        Pc::C3 => Access::Update(Named::BulkReclaims),
+        Pc::Wait => Access::Load(Named::BulkReclaims),
+        Pc::S1 => Access::Update(Named::ShardHead(r.shard)),
+        Pc::S2 => Access::Private(Named::NodeNext(r.reclaimable)),
+        Pc::S3 => Access::Store(Named::Shutdown),
     }
 }
 
-// The cell that it reads beside it.
-#[tactic(auto, unfolding(rules::specs::Places::follow_of))]
+// The cell that it reads beside it. The last arm is for all places that read none: their names would say nothing.
+#[tactic(auto, using(crate::proofs::Numbers::code_of), unfolding(rules::specs::Places::follow_of))]
 pub fn follow(r: Row, untaken: u32) -> Named
     ensures { result ≡ follow_of r untaken }
 {
-    if r.place == place::H2 {
-        return Named::RecordNext(r.rec);
+    match Pc::from(r.place) {
+        Pc::H2 => Named::RecordNext(r.rec),
+        Pc::Swap if r.node != 0 => Named::NodeState(r.node),
+        Pc::N1 if untaken != 0 => Named::Holder(untaken),
+        _ => Named::Nothing,
     }
-    if r.place == place::SWAP {
-        if r.node == 0 {
-            return Named::Nothing;
-        }
-        return Named::NodeState(r.node);
-    }
-    if r.place == place::N1 {
-        if untaken == 0 {
-            return Named::Nothing;
-        }
-        return Named::Holder(untaken);
-    }
-    Named::Nothing
 }
 
-// What a row's step does with what it saw.
+// What a row's step does with what it saw. A match on the enum is whole by its type, as a table of functions is not.
 #[tactic(auto, unfolding(rules::specs::Places::effect_of))]
 pub fn effect(r: Row, i: Seen) -> Effect
     ensures { result ≡ effect_of base r i }
 {
-    let at = r.place;
-    match at {
-        place::IDLE => effects::damaged(r),
-        place::A1 => acquire::acquire::a1(r, i),
-        place::A2 => acquire::acquire::a2(r, i),
-        place::A3 => acquire::acquire::a3(r, i),
-        place::A4 => acquire::acquire::a4(r, i),
-        place::A5 => acquire::acquire::a5(r, i),
-        place::A6 => acquire::acquire::a6(r, i),
-        place::N1 => acquire::acquire::n1(r, i),
-        place::N2 => acquire::acquire::n2(r, i),
-        place::N3 => acquire::acquire::n3(r, i),
-        place::D1 => acquire::release::d1(r, i),
-        place::D2 => acquire::release::d2(r, i),
-        place::P1 => acquire::release::p1(r, i),
-        place::P2 => acquire::release::p2(r, i),
-        place::P3 => acquire::release::p3(r, i),
-        place::V0 => protect::v0(r, i),
-        place::V1 => protect::v1(r, i),
-        place::V2 => protect::v2(r, i),
-        place::V3 => protect::v3(r, i),
-        place::RESET => protect::reset(r, i),
-        place::RAW => protect::raw(r, i),
-        place::SWAP => protect::swap(r, i),
-        place::T1 => retire::t1(r, i),
-        place::T2 => retire::t2(r, i),
-        place::T3 => retire::t3(r, i),
-        place::K1 => retire::k1(r, i),
-        place::K2 => retire::k2(r, i),
-        place::K3 => retire::k3(r, i),
-        place::K4 => retire::k4(r, i),
-        place::E1 => retire::e1(r, i),
-        place::E2 => retire::e2(r, i),
-        place::E3 => retire::e3(r, i),
-        place::B1 => reclaim::reclaim::b1(r, i),
-        place::STEAL => reclaim::reclaim::steal(r, i),
-        place::H1 => reclaim::reclaim::h1(r, i),
-        place::H2 => reclaim::reclaim::h2(r, i),
-        place::EXAMINE => reclaim::reclaim::examine(r, i),
-        place::RECLAIM => reclaim::reclaim::reclaim(r, i),
-        place::EMPTY => reclaim::reclaim::empty(r, i),
-        place::PUSH1 => reclaim::reclaim::push1(r, i),
-        place::PUSH2 => reclaim::reclaim::push2(r, i),
-        place::C1 => reclaim::reclaim::c1(r, i),
-        place::C3 => reclaim::reclaim::c3(r, i),
-        place::WAIT => reclaim::reclaim::wait(r, i),
-        place::S1 => reclaim::shutdown::s1(r, i),
-        place::S2 => reclaim::shutdown::s2(r, i),
-        place::S3 => reclaim::shutdown::s3(r, i),
-        _ => effects::damaged(r),
+    match Pc::from(r.place) {
+        Pc::Idle | Pc::Unknown => effects::damaged(r),
+        Pc::A1 => acquire::acquire::a1(r, i),
+        Pc::A2 => acquire::acquire::a2(r, i),
+        Pc::A3 => acquire::acquire::a3(r, i),
+        Pc::A4 => acquire::acquire::a4(r, i),
+        Pc::A5 => acquire::acquire::a5(r, i),
+        Pc::A6 => acquire::acquire::a6(r, i),
+        Pc::N1 => acquire::acquire::n1(r, i),
+        Pc::N2 => acquire::acquire::n2(r, i),
+        Pc::N3 => acquire::acquire::n3(r, i),
+        Pc::D1 => acquire::release::d1(r, i),
+        Pc::D2 => acquire::release::d2(r, i),
+        Pc::P1 => acquire::release::p1(r, i),
+        Pc::P2 => acquire::release::p2(r, i),
+        Pc::P3 => acquire::release::p3(r, i),
+        Pc::V0 => protect::v0(r, i),
+        Pc::V1 => protect::v1(r, i),
+        Pc::V2 => protect::v2(r, i),
+        Pc::V3 => protect::v3(r, i),
+        Pc::Reset => protect::reset(r, i),
+        Pc::Raw => protect::raw(r, i),
+        Pc::Swap => protect::swap(r, i),
+        Pc::T1 => retire::t1(r, i),
+        Pc::T2 => retire::t2(r, i),
+        Pc::T3 => retire::t3(r, i),
+        Pc::K1 => retire::k1(r, i),
+        Pc::K2 => retire::k2(r, i),
+        Pc::K3 => retire::k3(r, i),
+        Pc::K4 => retire::k4(r, i),
+        Pc::E1 => retire::e1(r, i),
+        Pc::E2 => retire::e2(r, i),
+        Pc::E3 => retire::e3(r, i),
+        Pc::B1 => reclaim::reclaim::b1(r, i),
+        Pc::Steal => reclaim::reclaim::steal(r, i),
+        Pc::H1 => reclaim::reclaim::h1(r, i),
+        Pc::H2 => reclaim::reclaim::h2(r, i),
+        Pc::Examine => reclaim::reclaim::examine(r, i),
+        Pc::Reclaim => reclaim::reclaim::reclaim(r, i),
+        Pc::Empty => reclaim::reclaim::empty(r, i),
+        Pc::Push1 => reclaim::reclaim::push1(r, i),
+        Pc::Push2 => reclaim::reclaim::push2(r, i),
+        Pc::C1 => reclaim::reclaim::c1(r, i),
+        Pc::C3 => reclaim::reclaim::c3(r, i),
+        Pc::Wait => reclaim::reclaim::wait(r, i),
+        Pc::S1 => reclaim::shutdown::s1(r, i),
+        Pc::S2 => reclaim::shutdown::s2(r, i),
+        Pc::S3 => reclaim::shutdown::s3(r, i),
     }
 }

@@ -1,4 +1,5 @@
-// Protect and the tries, reset and raw; and the swap of a source.
+// Protect and the tries, reset and raw; and the swap of a source. A row keeps kinds, and a cell states, as numbers, which
+// the rules speak of.
 #![tactic(auto)]
 
 ghost use Rattle.std.specs.Prelude.{◌≡◌};
@@ -6,80 +7,83 @@ ghost use Rattle.rules.specs.Sizes.{base};
 ghost use Rattle.rules.specs.Pc;
 ghost use Rattle.rules.specs.Places.{does};
 
-use effects::{ends, ends_puts, ends_puts_links, puts, quiet};
-use rules::{Effect, Named, Row, Seen, kind, place};
+use effects::{also_stores, becomes, ends, finishes, retry, stores};
+use rules::answer::Refusal;
+use rules::kind::Kind;
+use rules::pc::Pc;
+use rules::{Effect, Named, NodeState, Row, Seen};
 
 // V0: load the source.
 pub fn v0(r: Row, i: Seen) -> Effect
     ensures { result ≡ does base Pc.V0 r i }
 {
-    let mut s = r;
-    s.place = place::V1;
-    s.node = i.v;
-    quiet(s)
+    becomes(Row {
+        node: i.v,
+        ..r.go_to(Pc::V1)
+    })
 }
 
 // V1: store the node as hazard.
 pub fn v1(r: Row, i: Seen) -> Effect
     ensures { result ≡ does base Pc.V1 r i }
 {
-    let mut s = r;
-    s.place = place::V2;
-    puts(s, r.node as u64)
+    stores(r.node as u64, becomes(r.go_to(Pc::V2)))
 }
 
 // V2: load the source again; equal, the node is protected.
 pub fn v2(r: Row, i: Seen) -> Effect
     ensures { result ≡ does base Pc.V2 r i }
 {
-    let mut s = r;
     if i.v == r.node {
-        return ends(2, i.v as u64);
+        finishes(i.v as u64)
+    } else {
+        becomes(Row {
+            seen: i.v,
+            ..r.go_to(Pc::V3)
+        })
     }
-    s.place = place::V3;
-    s.seen = i.v;
-    quiet(s)
 }
 
 // V3: store null; protect goes on with the value seen, a try answers it.
 pub fn v3(r: Row, i: Seen) -> Effect
     ensures { result ≡ does base Pc.V3 r i }
 {
-    let mut s = r;
-    if r.operation == kind::PROTECT {
-        s.place = place::V1;
-        s.node = r.seen;
-        return puts(s, 0);
+    if r.operation == Kind::Protect as u32 {
+        let again = Row {
+            node: r.seen,
+            ..r.go_to(Pc::V1)
+        };
+        stores(0, becomes(again))
+    } else {
+        stores(0, retry(r.seen as u64))
     }
-    ends_puts(3, r.seen as u64, 0)
 }
 
 // Reset: store null to the hazard.
 pub fn reset(r: Row, i: Seen) -> Effect
     ensures { result ≡ does base Pc.Reset r i }
 {
-    ends_puts(2, 0, 0)
+    stores(0, finishes(0))
 }
 
 // Raw: store the node, unvalidated.
 pub fn raw(r: Row, i: Seen) -> Effect
     ensures { result ≡ does base Pc.Raw r i }
 {
-    ends_puts(2, 0, r.node as u64)
+    stores(r.node as u64, finishes(0))
 }
 
 // Swap: w is the new node's state; a free node becomes live, a waiting one is refused.
 pub fn swap(r: Row, i: Seen) -> Effect
     ensures { result ≡ does base Pc.Swap r i }
 {
-    if i.w == rules::WAITING {
-        return ends(25, 0);
+    if i.w == NodeState::Waiting as u32 {
+        return ends(Refusal::NotRetirable);
     }
-    if r.node == 0 {
-        return ends_puts(2, i.v as u64, 0);
+    let swapped = stores(r.node as u64, finishes(i.v as u64));
+    if r.node != 0 && i.w == NodeState::Free as u32 {
+        also_stores(Named::NodeState(r.node), NodeState::Live as u64, swapped)
+    } else {
+        swapped
     }
-    if i.w == rules::FREE {
-        return ends_puts_links(2, i.v as u64, r.node as u64, Named::NodeState(r.node), 1);
-    }
-    ends_puts(2, i.v as u64, r.node as u64)
 }

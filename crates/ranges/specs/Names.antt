@@ -3,7 +3,9 @@ use Rattle.std.specs.Prelude.{ℕ, ◌+◌, ◌*◌, ◌≤◌, ◌<◌, ◌≡�
 use Rattle.std.proofs.Common.{◌∙◌, subst, arith, eqb-true}
 use Rattle.std.proofs.lemmas.Bool.{eqb-false}
 use Rattle.rules.specs.Sizes.{records, nodes, threads, Settings}
-use Rattle.rules.specs.Pc.{Pc, code}
+use Rattle.rules.specs.Pc.{code}
+use Rattle.rules.specs.declared.pc.Pc.{Pc}
+use Rattle.rules.specs.declared.pc.Pc.TheVariants as Pc
 use Rattle.rules.specs.declared.Class.{Class}
 use Rattle.rules.specs.declared.Class.TheVariants.{Anything, ARecord, ANode, AnAvailable, AState, AHolder, NoCell}
 use Rattle.rules.specs.Rows.{first, shard_in}

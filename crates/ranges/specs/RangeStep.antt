@@ -5,7 +5,9 @@ use Rattle.std.proofs.Math.Decide.{dec_lt}
 use native.Mathlib.Omega.{arith}
 use Rattle.rules.specs.Sizes.{nodes, threads, Settings}
 use Rattle.rules.specs.Words.{shard_of}
-use Rattle.rules.specs.Pc.{Pc, pc_of, code}
+use Rattle.rules.specs.Pc.{pc_of, code}
+use Rattle.rules.specs.declared.pc.Pc.{Pc}
+use Rattle.rules.specs.declared.pc.Pc.TheVariants as Pc
 use Rattle.rules.specs.Rows.{idle}
 use Rattle.rules.specs.Places.{accesses, does, ends}
 use Rattle.rules.specs.Start.{begins}

@@ -5,7 +5,9 @@ use borrow.Author.Tests.{eqb-true, eqb-false, ltb-false, le-ltb}
 use Rattle.base.specs.Pick.{pick}
 use Rattle.rules.specs.Sizes.{records, sources, nodes, threads, Settings}
 use Rattle.rules.specs.Words.{with_lock}
-use Rattle.rules.specs.Pc.{Pc, code}
+use Rattle.rules.specs.Pc.{code}
+use Rattle.rules.specs.declared.pc.Pc.{Pc}
+use Rattle.rules.specs.declared.pc.Pc.TheVariants as Pc
 use Rattle.rules.specs.Rows.{first, shard_in, stealing, keeping, stolen_from}
 use Rattle.rules.specs.Places.{accesses, does, damaged, examine_from, examined, after_free, shut_next}
 use Rattle.rules.specs.declared.Row.{Row}

@@ -1,254 +1,190 @@
 // Reclaim: the passes of `do_reclamation`, and the wait of cleanup.
-ghost use Rattle.std.specs.Prelude.{◌≡◌, ◌==◌};
+ghost use Rattle.std.specs.Prelude.{◌≡◌};
 ghost use Rattle.rules.specs.Sizes.{base};
 ghost use Rattle.rules.specs.Pc;
 ghost use Rattle.rules.specs.Places.{does};
-ghost use Rattle.rules.specs.Places.{becomes, stores, answers, clears_guards, damaged, guarding, weak, also_stores};
-ghost use Rattle.rules.specs.Rows.{go_to, in_shard, with_rec, idle, seeing};
-ghost use Rattle.rules.specs.Words.{less};
-ghost use Rattle.base.specs.Pick.{pick};
-ghost use Rattle.rules.specs.declared.Named.TheVariants as cell;
+ghost use Rattle.rules.specs.Rows.{stealing};
 
-use effects::{
-    clears_guards, damaged, ends, ends_puts, guarding, links, puts, puts_links, quiet, reclaims,
-};
+use effects::{also_stores, becomes, clears_guards, damaged, finishes, guarding, reclaims, stores};
 use passes::{emptied, examine_from, examined, freed, new_pass, next_stolen, passed, reclaimed};
-use rules::{Effect, Named, Row, SHARDS, Seen, kind, place};
-
-// One less, as an atomic's subtraction wraps.
-fn less_one(n: u64) -> u64
-    ensures { result ≡ less n 1 }
-{
-    std::num::wrapping_add_u64(n, 18446744073709551615)
-}
+use rules::kind::Kind;
+use rules::pc::Pc;
+use rules::{Done, Effect, Named, Row, SHARDS, Seen};
 
 // B1: `nbulk_reclaims` + 1.
 pub fn b1(r: Row, i: Seen) -> Effect
     ensures { result ≡ does base Pc.B1 r i }
 {
-    puts(new_pass(r), std::num::wrapping_add_u64(i.x, 1))
+    stores(i.x.wrapping_add(1), becomes(new_pass(r)))
 }
 
-fn steal_by(r: Row, next: u32, from: u32, empty: Row) -> Effect
-    ensures { result ≡ pick (next == 8) (pick (from == 8) (stores 0 (becomes empty)) (stores 0 (becomes (go_to Pc.H1 r)))) (stores 0 (becomes (in_shard next r))) }
+// The row with v as the list stolen from its shard.
+fn stealing(r: Row, v: u32) -> Row
+    ensures { result ≡ stealing v r }
 {
-    let mut s = r;
-    if next == SHARDS {
-        if from == SHARDS {
-            return puts(empty, 0);
-        }
-        s.place = place::H1;
-        return puts(s, 0);
-    }
-    s.shard = next;
-    puts(s, 0)
+    let mut stolen = r.stolen;
+    stolen[r.shard_in() as usize] = v;
+    Row { stolen, ..r }
 }
 
 // Steal: swap a shard's head with null; after the last, the scan, or the end of an empty pass.
 pub fn steal(r: Row, i: Seen) -> Effect
     ensures { result ≡ does base Pc.Steal r i }
 {
-    let k = r.shard % SHARDS;
-    let j = k as usize;
-    let mut s = r;
-    s.stolen[j] = i.v;
-    let stolen = s.stolen;
-    let from = next_stolen(stolen, 0);
-    let mut z = s;
-    z.done = 2;
-    steal_by(s, k + 1, from, passed(z))
-}
-
-fn h1_by(r: Row, v: u32, on: Row) -> Effect
-    ensures { result ≡ pick (v == 0) (clears_guards on) (clears_guards (go_to Pc.H2 (with_rec v r))) }
-{
-    let mut s = r;
-    if v == 0 {
-        return clears_guards(on);
-    }
-    s.place = place::H2;
-    s.rec = v;
-    clears_guards(s)
+    let taken = stealing(r, i.v);
+    let next = r.shard_in() + 1;
+    let on = if next != SHARDS {
+        Row {
+            shard: next,
+            ..taken
+        }
+    } else if next_stolen(taken.stolen, 0) == SHARDS {
+        passed(Row {
+            done: Done::Empty as u32,
+            ..taken
+        })
+    } else {
+        taken.go_to(Pc::H1)
+    };
+    stores(0, becomes(on))
 }
 
 // H1: clear the guarded set and load the record list's head.
 pub fn h1(r: Row, i: Seen) -> Effect
     ensures { result ≡ does base Pc.H1 r i }
 {
-    h1_by(r, i.v, examine_from(r, 0))
-}
-
-fn h2_by(r: Row, v: u32, w: u32, on: Row) -> Effect
-    ensures { result ≡ pick (w == 0) (guarding v on) (guarding v (with_rec w r)) }
-{
-    let mut s = r;
-    if w == 0 {
-        return guarding(v, on);
+    if i.v == 0 {
+        clears_guards(examine_from(r, 0))
+    } else {
+        clears_guards(Row {
+            rec: i.v,
+            ..r.go_to(Pc::H2)
+        })
     }
-    s.rec = w;
-    guarding(v, s)
 }
 
 // H2: load a record's hazard, guard it, and go to the next record.
 pub fn h2(r: Row, i: Seen) -> Effect
     ensures { result ≡ does base Pc.H2 r i }
 {
-    h2_by(r, i.v, i.w, examine_from(r, 0))
-}
-
-// The kept list's last node: n where n is its first.
-fn tail(r: Row, n: u32) -> u32
-    ensures { result ≡ pick (r.unreclaimed == 0) n r.tail }
-{
-    if r.unreclaimed == 0 {
-        return n;
+    if i.w == 0 {
+        guarding(i.v, examine_from(r, 0))
+    } else {
+        guarding(i.v, Row { rec: i.w, ..r })
     }
-    r.tail
-}
-
-fn examine_by(guarded: bool, unreclaimed: u32, kept: Row, reclaimable: u32, free: Row) -> Effect
-    ensures { result ≡ pick guarded (stores unreclaimed (becomes kept)) (stores reclaimable (becomes free)) }
-{
-    if guarded {
-        return puts(kept, unreclaimed as u64);
-    }
-    puts(free, reclaimable as u64)
 }
 
 // Examine the first stolen node: guarded, on the front of the kept list, else on that of the reclaim list.
 pub fn examine(r: Row, i: Seen) -> Effect
     ensures { result ≡ does base Pc.Examine r i }
 {
-    let k = (r.shard % SHARDS) as usize;
-    let n = r.stolen[k];
-    let mut s = r;
-    s.stolen[k] = i.v;
-    let mut kept = s;
-    kept.unreclaimed = n;
-    kept.tail = tail(r, n);
-    let mut free = s;
-    free.reclaimable = n;
-    examine_by(
-        i.guarded,
-        r.unreclaimed,
-        examined(kept, i.v),
-        r.reclaimable,
-        examined(free, i.v),
-    )
+    let node = r.first();
+    let rest = stealing(r, i.v);
+    if i.guarded {
+        let kept = Row {
+            unreclaimed: node,
+            tail: if r.unreclaimed == 0 { node } else { r.tail },
+            ..rest
+        };
+        stores(r.unreclaimed as u64, becomes(examined(kept, i.v)))
+    } else {
+        let free = Row {
+            reclaimable: node,
+            ..rest
+        };
+        stores(r.reclaimable as u64, becomes(examined(free, i.v)))
+    }
 }
 
 // Reclaim the first node of the reclaim list.
 pub fn reclaim(r: Row, i: Seen) -> Effect
     ensures { result ≡ does base Pc.Reclaim r i }
 {
-    let mut s = r;
-    s.reclaimable = i.v;
-    s.rcount = less_one(r.rcount);
-    reclaims(r.reclaimable, reclaimed(freed(s), i.v))
-}
-
-fn empty_by(r: Row, v: u32, next: u32, all: Row, some: Row) -> Effect
-    ensures { result ≡ pick (v == 0) (pick (next == 8) (becomes all) (becomes (in_shard next r))) (becomes some) }
-{
-    let mut s = r;
-    if v == 0 {
-        if next == SHARDS {
-            return quiet(all);
-        }
-        s.shard = next;
-        return quiet(s);
-    }
-    quiet(some)
+    let rest = Row {
+        reclaimable: i.v,
+        rcount: r.rcount.wrapping_sub(1),
+        ..r
+    };
+    reclaims(r.reclaimable, reclaimed(freed(rest), i.v))
 }
 
 // Empty: load the shards' heads up to the first that is not null.
 pub fn empty(r: Row, i: Seen) -> Effect
     ensures { result ≡ does base Pc.Empty r i }
 {
-    let mut all = r;
-    all.done = 2;
-    let mut some = r;
-    some.done = 1;
-    empty_by(r, i.v, r.shard % SHARDS + 1, emptied(all), emptied(some))
+    let next = r.shard_in() + 1;
+    if i.v != 0 {
+        becomes(emptied(Row {
+            done: Done::Left as u32,
+            ..r
+        }))
+    } else if next == SHARDS {
+        becomes(emptied(Row {
+            done: Done::Empty as u32,
+            ..r
+        }))
+    } else {
+        becomes(Row { shard: next, ..r })
+    }
 }
 
 // Push1: load the head of shard 0.
 pub fn push1(r: Row, i: Seen) -> Effect
     ensures { result ≡ does base Pc.Push1 r i }
 {
-    let mut s = r;
-    s.place = place::PUSH2;
-    s.seen = i.v;
-    quiet(s)
-}
-
-fn push2_by(r: Row, i: Seen, on: Row) -> Effect
-    ensures { result ≡ pick (r.unreclaimed == 0) (damaged r) (weak i.v r.seen i.flag (stores r.unreclaimed (also_stores (cell.NodeNext r.tail) r.seen (becomes on))) (also_stores (cell.NodeNext r.tail) r.seen (becomes (seeing i.v r)))) }
-{
-    let mut s = r;
-    if r.unreclaimed == 0 {
-        return damaged(r);
-    }
-    if i.v == r.seen {
-        if i.flag {
-            s.seen = i.v;
-            return links(s, Named::NodeNext(r.tail), r.seen as u64);
-        }
-        return puts_links(
-            on,
-            r.unreclaimed as u64,
-            Named::NodeNext(r.tail),
-            r.seen as u64,
-        );
-    }
-    s.seen = i.v;
-    links(s, Named::NodeNext(r.tail), r.seen as u64)
+    becomes(Row {
+        seen: i.v,
+        ..r.go_to(Pc::Push2)
+    })
 }
 
 // Push2: weak exchange that puts the kept list in front of shard 0.
 pub fn push2(r: Row, i: Seen) -> Effect
     ensures { result ≡ does base Pc.Push2 r i }
 {
-    let mut s = r;
-    s.unreclaimed = 0;
-    s.tail = 0;
-    push2_by(r, i, passed(s))
+    if r.unreclaimed == 0 {
+        return damaged(r);
+    }
+    let next = Named::NodeNext(r.tail);
+    if i.v == r.seen && !i.flag {
+        let pushed = passed(Row {
+            unreclaimed: 0,
+            tail: 0,
+            ..r
+        });
+        let linked = also_stores(next, r.seen as u64, becomes(pushed));
+        stores(r.unreclaimed as u64, linked)
+    } else {
+        also_stores(next, r.seen as u64, becomes(Row { seen: i.v, ..r }))
+    }
 }
 
 // C1: what was not reclaimed goes back to `count`.
 pub fn c1(r: Row, i: Seen) -> Effect
     ensures { result ≡ does base Pc.C1 r i }
 {
-    let mut s = r;
-    s.place = place::K1;
-    s.rcount = 0;
-    puts(s, std::num::wrapping_add_u64(i.x, r.rcount))
-}
-
-fn c3_by(r: Row, n: u64) -> Effect
-    ensures { result ≡ pick (r.operation == 11) (stores n (becomes (go_to Pc.Wait r))) (stores n (answers 2 r.total idle)) }
-{
-    let mut s = r;
-    if r.operation == kind::CLEANUP {
-        s.place = place::WAIT;
-        return puts(s, n);
-    }
-    ends_puts(2, r.total, n)
+    let given_back = Row {
+        rcount: 0,
+        ..r.go_to(Pc::K1)
+    };
+    stores(i.x.wrapping_add(r.rcount), becomes(given_back))
 }
 
 // C3: `nbulk_reclaims` - 1; cleanup waits.
 pub fn c3(r: Row, i: Seen) -> Effect
     ensures { result ≡ does base Pc.C3 r i }
 {
-    c3_by(r, less_one(i.x))
+    let less = i.x.wrapping_sub(1);
+    if r.operation == Kind::Cleanup as u32 {
+        stores(less, becomes(r.go_to(Pc::Wait)))
+    } else {
+        stores(less, finishes(r.total))
+    }
 }
 
 // Wait: load `nbulk_reclaims` until it is 0.
 pub fn wait(r: Row, i: Seen) -> Effect
     ensures { result ≡ does base Pc.Wait r i }
 {
-    if i.x == 0 {
-        return ends(2, 0);
-    }
-    quiet(r)
+    if i.x == 0 { finishes(0) } else { becomes(r) }
 }

@@ -1,7 +1,9 @@
 -- Who holds each record: the available list behind its lock bit, the threads, and the owners; and the list of all records.
 use Rattle.std.specs.Prelude.{◌≡◌, ◌≢◌, List, [], ◌∷◌, ℕ, suc, ◌+◌, ◌*◌, ◌-◌, ◌≤◌, ◌<◌, min, length, get_or}
 use Rattle.rules.specs.Sizes.{records}
-use Rattle.rules.specs.Pc.{Pc, pc_of}
+use Rattle.rules.specs.Pc.{pc_of}
+use Rattle.rules.specs.declared.pc.Pc.{Pc}
+use Rattle.rules.specs.declared.pc.Pc.TheVariants as Pc
 use Rattle.rules.specs.Rows.{idle}
 use Rattle.rules.specs.declared.Row.{Row}
 use Rattle.lists.specs.Occ.{occ, eq01, sum}

@@ -7,7 +7,9 @@ use Rattle.std.proofs.lemmas.Bool.{eqb-false}
 use Rattle.base.specs.Pick.{pick}
 use Rattle.rules.specs.Sizes.{records, threads, Settings}
 use Rattle.rules.specs.Words.{locked, with_lock}
-use Rattle.rules.specs.Pc.{Pc, pc_of, code}
+use Rattle.rules.specs.Pc.{pc_of, code}
+use Rattle.rules.specs.declared.pc.Pc.{Pc}
+use Rattle.rules.specs.declared.pc.Pc.TheVariants as Pc
 use Rattle.rules.specs.Rows
 use Rattle.rules.specs.Rows.{idle, go_to}
 use Rattle.rules.specs.Places.{accesses, does, ends, becomes, stores, also_stores, finishes}

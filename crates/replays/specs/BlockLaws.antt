@@ -15,9 +15,8 @@ use Rattle.frames.specs.declared.Line.{Line}
 use Rattle.texts.specs.Lines.{up_to}
 use Rattle.texts.specs.LineLaws.{take-front, up_none, up_on, up_all, up_first}
 use Rattle.texts.specs.TextLaws.{sets_append}
-use Rattle.replays.specs.declared.Reply.{Reply}
-use Rattle.replays.specs.declared.runner.Kept.{Kept}
-use Rattle.replays.specs.Replay.{replied, reply_to, line_in, Ran, ran, written, ran_line}
+use Rattle.replays.specs.declared.kept.Kept.{Kept}
+use Rattle.replays.specs.Replay.{Reply, replied, reply_to, line_in, Ran, ran, written, ran_line}
 use Rattle.replays.specs.RunnerLaws.{fitting-front}
 use Rattle.replays.specs.Runner.{Stand, stand, keep, Run, behind, run_bytes, fitting, run_block, Left, left, block_of, Ends}
 
@@ -175,16 +174,18 @@ block_left g s bytes len n input out l' at' r h q e p =
     ∙ gathers g s (take len bytes) n input out 0 0 l' at' e (simp length-take (omega arith)) (q ∙ ap (λ (k : ℕ). take k (take len bytes ++ up_to (drop 0 input))) h)
     )
 
+-- the same of a line that is no longer than 29 bytes
+pub block_run : (g : Settings) (s : State) (l : List ℕ) (n : ℕ) (input out : List ℕ) (l' : List ℕ) (at' : ℕ) (r : Left) → length l ≤ 29 → l' ≡ take 29 (l ++ up_to input) → at' ≡ length (up_to input) → r ≡ onto g (stand s l' n) input out 0 at' → r ≡ block_of g (stand s l n) input out
+block_run g s l n input out l' at' r h q e p = p ∙ sym (begins g (stand s l n) input out ∙ gathers g s l n input out 0 0 l' at' (e ∙ sym (zero-add _)) h q)
+
 -- ---- the end of the input
-module _ (k : Kept) (text : List ℕ) where
-  pub ends-none : k.len ≡ 0 → Ends (take 0 text) k
+module _ (k : Kept) where
+  pub ends-none : length k.line ≡ 0 → Ends [] k
   ends-none h s = rw h
 
-  pub ends_bad : (k.len ≢ 0) → length k.bytes ≡ 29 → text ≡ answer_of 28 0 k.number → Ends (take 21 text) k
+  pub ends_bad : (text : List ℕ) → (length k.line ≢ 0) → text ≡ answer_of 28 0 k.number → Ends text k
   unfolding ran_line reply_to
-  ends_bad h e p s =
-      let n : length (take k.len k.bytes) ≡ 0 → ⊥ = simp length-take (λ z. omega arith) in
-      rw (ne_eqb (length (take k.len k.bytes)) 0 n) (ap (λ (t : List ℕ). ran t s) (take_all 21 text (omega (arith, ap length p, answer-length 28 0 k.number)) ∙ p))
+  ends_bad text n p s = rw (ne_eqb (length k.line) 0 n) (ap (λ (t : List ℕ). ran t s) p)
 
 -- ---- what a caller cuts out of its buffers
 line-length : (g : Settings) (s : State) (l : List ℕ) (w : Bool) (n : ℕ) → length (ran_line g s l w n).text ≡ 21

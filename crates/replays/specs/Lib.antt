@@ -3,3 +3,4 @@ pub mod ReplayLaws
 pub mod Runner
 pub mod RunnerLaws
 pub mod BlockLaws
+pub mod Told

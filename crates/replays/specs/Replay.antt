@@ -7,7 +7,11 @@ use Rattle.rules.specs.Start.{start_of}
 use Rattle.frames.specs.Frames.{line_of, answer_of}
 use Rattle.frames.specs.declared.Line.{Line}
 use Rattle.frames.specs.declared.Line.TheVariants.{Step, Start, Bad}
-use Rattle.replays.specs.declared.Reply.{Reply}
+
+pub record Reply : Type 0 where
+  pub number : ℕ
+  pub thread : ℕ
+  pub value : ℕ
 
 abbrev pub reply : ℕ → ℕ → ℕ → Reply
 reply number thread value = record { number = number; thread = thread; value = value }

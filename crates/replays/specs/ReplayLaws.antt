@@ -5,7 +5,7 @@ use Rattle.std.proofs.Common.{sym, ◌∙◌}
 use Rattle.rules.specs.Sizes.{Settings}
 use Rattle.rules.specs.Step.{State, out, step_of}
 use Rattle.rules.specs.Start.{start_of}
-use Rattle.rules.specs.declared.Answer.{Answer}
+use Rattle.rules.specs.declared.answer.Answer.{Answer}
 use Rattle.rules.specs.declared.Operation.{Operation}
 use Rattle.frames.specs.declared.Line.{Line}
 use Rattle.frames.specs.declared.Line.TheVariants.{Step, Start, Bad}

@@ -1,12 +1,12 @@
 -- A replay that comes in blocks: what each byte of the input writes, what is kept between two blocks, and the lines of
 -- an input. Every program that reads a replay goes by this.
-use Rattle.std.specs.Prelude.{◌≡◌, ℕ, ◌-◌, Bool, true, false, List, [], ◌∷◌, ◌++◌, length, take, ◌==◌, nat_lt}
+use Rattle.std.specs.Prelude.{◌≡◌, ℕ, ◌-◌, Bool, true, false, List, [], ◌∷◌, ◌++◌, length, take, ◌==◌, nat_lt, Option, None, Some}
 use Rattle.std.proofs.lemmas.List.Edits.{sets}
 use Rattle.base.specs.Pick.{pick}
 use Rattle.rules.specs.Sizes.{Settings, base}
 use Rattle.rules.specs.Words.{plus}
 use Rattle.rules.specs.Step.{State}
-use Rattle.replays.specs.declared.runner.Kept.{Kept}
+use Rattle.replays.specs.declared.kept.Kept.{Kept}
 use Rattle.replays.specs.Replay.{Ran, ran, ran_line}
 
 -- ---- where a replay stands after some bytes: the tables, the first bytes of the line begun, and that line's number
@@ -114,11 +114,16 @@ block_of g p input out =
 
 -- where a replay stands by what the code keeps
 abbrev pub standing : State → Kept → Stand
-standing s k = stand s (take k.len k.bytes) k.number
+standing s k = stand s k.line k.number
 
 -- before the first block, and at the end of the input
 abbrev pub Begins : ℕ → Kept → Type 0
 Begins n k = (s : State) → standing s k ≡ stand s [] n
+
+-- what is written at the end of the input, where anything is
+abbrev pub ending : Option (List ℕ) → List ℕ
+ending None = []
+ending (Some t) = t
 
 abbrev pub Ends : List ℕ → Kept → Type 0
 Ends text k = (s : State) → ran text s ≡ run_end base (standing s k)

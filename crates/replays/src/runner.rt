@@ -1,23 +1,16 @@
 // Blocks of a replay's lines.
-ghost use Rattle.std.specs.Prelude.{◌≡◌, ◌+◌, ◌≤◌, length, take};
-ghost use Rattle.std.proofs.lemmas.List.Edits.{sets};
+ghost use Rattle.std.specs.Prelude.{◌≡◌, ◌≤◌, length};
 ghost use Rattle.rules.specs.Sizes.{base};
-ghost use Rattle.rules.specs.Step.{lent};
-ghost use Rattle.frames.specs.Frames.{answer_of};
-ghost use Rattle.replays.specs.Runner.{left, block_of, standing, Begins, Ends};
+ghost use Rattle.tables.specs.Lent.{held, AreSame};
+ghost use Rattle.replays.specs.Runner.{left, block_of, standing, Begins, Ends, ending};
 
+pub use crate::kept::Kept;
 use crate::{Reply, reply_to};
+use tables::Lent;
+use texts::Text;
 
 // The bytes of an answer.
 pub const ANSWER: usize = 21;
-
-// What is kept between two blocks: the first bytes of the line begun, how many, and the line's number.
-#[derive(Drop)]
-pub struct Kept {
-    pub bytes: [u8; 29],
-    pub len: usize,
-    pub number: u64,
-}
 
 // What a block leaves: how many bytes of the input were run, how many bytes of answers there are, and what is kept.
 #[derive(Drop)]
@@ -32,83 +25,47 @@ pub fn begun(number: u64) -> Kept
     ensures { Begins number result }
 {
     Kept {
-        bytes: [0; 29],
-        len: 0,
-        number: number,
+        line: Text::new(),
+        number,
     }
 }
 
-// An answer line goes behind the bytes used.
-fn answer(out: &mut [u8], used: usize, r: Reply)
-    requires { used + 21 ≤ length out.old }
-    ensures { out.new ≡ sets out.old used (answer_of r.number r.thread r.value) }
+// The lines of a block are run, and their answers are put at the front of `out`, until there is no room for one more: a
+// loop from newline to newline, which an iterator over lines could not leave where the room ends.
+pub fn run_block(tables: &mut Lent, kept: Kept, input: &[u8], out: &mut [u8]) -> Block
+    ensures block { left out.new result.used result.taken (standing (held tables.new) result.kept) ≡ block_of base (standing (held tables.old) kept) input.now out.old }
+    ensures room { result.used ≤ length out.new }
+    ensures same { AreSame tables.old tables.new }
 {
-    let text = frames::answer_line(r.number, r.thread, r.value);
-    texts::word(out, used, &text);
-}
-
-// The lines of a block are run, and their answers are put at the front of `out`, until there is no room for one more.
-pub fn run_block(
-    ids: &mut [u32],
-    next: &mut [u32],
-    state: &mut [u32],
-    words: &mut [u64],
-    guards: &mut [u64],
-    kept: Kept,
-    input: &[u8],
-    out: &mut [u8],
-) -> Block
-    ensures { left out.new result.used result.taken (standing (lent ids.new next.new state.new words.new guards.new) result.kept) ≡ block_of base (standing (lent ids.old next.old state.old words.old guards.old) kept) input.now out.old }
-{
-    let mut bytes = kept.bytes;
+    let mut line = kept.line;
     let mut number = kept.number;
     let mut used = 0usize;
-    let mut g = texts::gather(&mut bytes, kept.len, input, 0);
-    while g.at < input.len() {
+    let mut at = line.gather(input);
+    while at < input.len() {
         if out.len() - used < ANSWER {
             break;
         }
-        let from = 0usize;
-        let len = g.len;
-        let line = &bytes[from..len];
-        let l = frames::read_line(line);
-        let r = reply_to(ids, next, state, words, guards, number, l);
-        answer(out, used, r);
+        let reply = reply_to(tables, number, frames::read_line(line.as_bytes()));
+        texts::word(out, used, &reply.text());
         used += ANSWER;
-        number = std::num::wrapping_add_u64(number, 1);
-        g = texts::gather(&mut bytes, 0, input, g.at + 1);
+        number = number.wrapping_add(1);
+        line.clear();
+        at += 1 + line.gather(&input[at + 1..]);
     }
     Block {
-        taken: g.at,
-        used: used,
-        kept: Kept {
-            bytes: bytes,
-            len: g.len,
-            number: number,
-        },
+        taken: at,
+        used,
+        kept: Kept { line, number },
     }
 }
 
-// What the end of an input writes: the first `used` bytes of the text.
-#[derive(Drop)]
-pub struct Ending {
-    pub text: [u8; 21],
-    pub used: usize,
-}
-
-// A last line without its newline is answered, if one is begun.
-pub fn finish(kept: Kept) -> Ending
-    ensures { Ends (take result.used result.text) kept × (result.used ≤ 21) }
+// What the end of an input answers: a last line without its newline, if one is begun.
+pub fn finish(kept: Kept) -> Option<[u8; ANSWER]>
+    ensures { Ends (ending result) kept }
 {
-    let text = frames::answer_line(28, 0, kept.number);
-    if kept.len == 0 {
-        return Ending {
-            text: text,
-            used: 0,
-        };
+    if kept.line.len() == 0 {
+        return None;
     }
-    Ending {
-        text: text,
-        used: ANSWER,
-    }
+    let bad = Reply::Bad { line: kept.number };
+    Some(bad.text())
 }

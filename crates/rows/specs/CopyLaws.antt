@@ -1,5 +1,5 @@
 -- The loop that copies a row's words from a table into an array.
-use Rattle.std.specs.Prelude.{ℕ, ◌+◌, ◌*◌, ◌≤◌, ◌<◌, ◌≡◌, true, List, length, set, ltb}
+use Rattle.std.specs.Prelude.{ℕ, ◌+◌, ◌*◌, ◌≤◌, ◌<◌, ◌≡◌, true, List, [], ◌∷◌, length, set, ltb}
 use Rattle.std.proofs.Common.{sym, ◌∙◌, ltb-true}
 use Rattle.std.proofs.Math.Path.{ap}
 use Rattle.std.proofs.Math.ListN.{get_or}
@@ -40,3 +40,8 @@ loaded a d l m t p q = simp (at32, at64)
 
     at64 : (k : ℕ) → ltb k row64 ≡ true → get_or d k 0 ≡ get_or m (t * row64 + k) 0
     at64 k h = q k (ltb-true _ _ h)
+
+-- words of any size, stored one behind the other from b on
+unfoldable pub stores : {X : Type 0} → List X → ℕ → List X → List X
+stores l b [] = l
+stores l b (w ∷ ws) = stores (set l b w) (b + 1) ws

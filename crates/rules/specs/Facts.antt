@@ -3,7 +3,7 @@ use Rattle.std.specs.Prelude.{ℕ, ◌<◌, ◌≡◌, refl, ◌≢◌, Bool, tr
 use Rattle.std.proofs.Common.{arith, eqb-true}
 use Rattle.base.specs.Pick.{pick}
 use Rattle.rules.specs.Sizes.{nodes, Settings}
-use Rattle.rules.specs.Pc
+use Rattle.rules.specs.declared.pc.Pc.TheVariants as Pc
 use Rattle.rules.specs.Rows.{go_to, seeing, with_node}
 use Rattle.rules.specs.Places.{does, becomes, finishes, retry, stores}
 use Rattle.rules.specs.Start.{retire_by, busy_by}

@@ -8,3 +8,7 @@ pub mod Places
 pub mod Step
 pub mod Start
 pub mod Facts
+pub mod Answers
+pub mod Kind
+pub mod Every
+pub mod Holder

@@ -3,8 +3,8 @@ use Rattle.std.specs.Prelude.{ℕ, ◌+◌, ◌*◌, ◌-◌, ◌/◌, Bool, tru
 use Rattle.base.specs.Pick.{pick}
 use Rattle.rules.specs.Sizes.{Settings}
 use Rattle.rules.specs.Words.{locked, with_lock, plus, less, due_time, over}
-use Rattle.rules.specs.Pc
-use Rattle.rules.specs.Pc.{Pc, pc_of}
+use Rattle.rules.specs.Pc.{pc_of, code}
+use Rattle.rules.specs.declared.pc.Pc.{Pc}
 use Rattle.rules.specs.Rows.{idle, go_to, with_rec, with_next, with_node, seeing, in_shard, with_lone, reclaiming}
 use Rattle.rules.specs.Rows.{keeping, with_done, stealing, counting, taking, dated, freeing, freed, shard_in}
 use Rattle.rules.specs.Rows.{first, stolen_from}
@@ -21,9 +21,9 @@ use Rattle.rules.specs.declared.Access.TheVariants as by
 -- ---- the cell that is read beside it: H2 the record's `next`, a swap the new node's state, N1 the row it would take
 unfoldable pub follow_of : Row → ℕ → Named
 follow_of r untaken =
-    pick (eqb r.place (Pc.code Pc.H2)) (cell.RecordNext r.rec)
-    (pick (eqb r.place (Pc.code Pc.Swap)) (pick (eqb r.node 0) cell.Nothing (cell.NodeState r.node))
-    (pick (eqb r.place (Pc.code Pc.N1)) (pick (eqb untaken 0) cell.Nothing (cell.Holder untaken)) cell.Nothing))
+    pick (eqb r.place (code Pc.H2)) (cell.RecordNext r.rec)
+    (pick (eqb r.place (code Pc.Swap)) (pick (eqb r.node 0) cell.Nothing (cell.NodeState r.node))
+    (pick (eqb r.place (code Pc.N1)) (pick (eqb untaken 0) cell.Nothing (cell.Holder untaken)) cell.Nothing))
 
 -- ---- words for effects
 abbrev effect : Row → ℕ → ℕ → Bool → ℕ → Named → ℕ → Guards → Bool → Effect

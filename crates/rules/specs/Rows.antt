@@ -3,10 +3,9 @@ use Rattle.std.specs.Prelude.{ℕ, zero, suc, ◌+◌, ◌*◌, ◌-◌, ◌%◌
 use Rattle.base.specs.Pick.{pick}
 use Rattle.rules.specs.Sizes.{records, sources, nodes, row32, row64, Settings}
 use Rattle.rules.specs.Words.{plus, less}
-use Rattle.rules.specs.Field
 use Rattle.rules.specs.Field.{Field, Field-discrete}
-use Rattle.rules.specs.Pc
-use Rattle.rules.specs.Pc.{Pc, code}
+use Rattle.rules.specs.Pc.{code}
+use Rattle.rules.specs.declared.pc.Pc.{Pc}
 use Rattle.rules.specs.declared.Row.{Row}
 
 -- ---- the row in the tables: 21 words from l's b on, 5 from m's d on

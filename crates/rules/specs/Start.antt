@@ -3,8 +3,8 @@ use Rattle.std.specs.Prelude.{ℕ, zero, suc, ◌+◌, ◌*◌, ◌%◌, ◌^◌
 use Rattle.base.specs.Pick.{pick, both}
 use Rattle.rules.specs.Sizes.{records, sources, nodes, threads, row32, Settings}
 use Rattle.rules.specs.Words.{shard_of}
-use Rattle.rules.specs.Pc
-use Rattle.rules.specs.Pc.{Pc, code}
+use Rattle.rules.specs.Pc.{code}
+use Rattle.rules.specs.declared.pc.Pc.{Pc}
 use Rattle.rules.specs.Cells
 use Rattle.rules.specs.Cells.{address}
 use Rattle.rules.specs.Rows.{stored32, stored64, idle, with}

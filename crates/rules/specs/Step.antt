@@ -4,13 +4,14 @@ use Rattle.base.specs.Pick.{pick, both}
 use Rattle.rules.specs.Sizes.{records, sources, nodes, threads, words, row32, row64, head_cells, counter_cells}
 use Rattle.rules.specs.Sizes.{from_sources, from_records, from_rows, steps, Settings}
 use Rattle.rules.specs.Words.{is_guarded, guarded_also, none_guarded, plus}
-use Rattle.rules.specs.Pc
+use Rattle.rules.specs.declared.pc.Pc.TheVariants as Pc
 use Rattle.rules.specs.Pc.{code}
 use Rattle.rules.specs.Cells
 use Rattle.rules.specs.Cells.{in_range, address, accessed, nothing}
 use Rattle.rules.specs.Rows.{row_at, row_fits, stored32, stored64, first}
 use Rattle.rules.specs.Places.{access_of, follow_of, effect_of, damaged}
-use Rattle.rules.specs.declared.Answer.{Answer}
+use Rattle.rules.specs.declared.answer.Answer.{Answer}
+pub use Rattle.rules.specs.Answers.{answer}
 use Rattle.rules.specs.declared.Row.{Row}
 use Rattle.rules.specs.declared.Cell.{Cell}
 use Rattle.rules.specs.declared.Seen.{Seen}
@@ -58,9 +59,6 @@ pub record Out : Type 0 where
 
 abbrev pub out : Answer → State → Out
 out a s = record { answer = a; state = s }
-
-abbrev pub answer : ℕ → ℕ → Answer
-answer n v = record { number = n; value = v }
 
 -- a refusal changes nothing
 abbrev pub refused : ℕ → State → Out

@@ -1,24 +1,46 @@
-// The operations as their kinds in a frame, which a row keeps.
-pub const ACQUIRE: u32 = 1;
+// The operations as their kinds in a frame, which a row keeps as their numbers.
+#[derive(Clone, Copy, PartialEq, Eq)]
+pub enum Kind {
+    Acquire = 1,
+    Release,
+    Protect,
+    Try,
+    TryProtect,
+    Reset,
+    Raw,
+    Swap,
+    Retire,
+    Eager,
+    Cleanup,
+    Shutdown,
+}
 
-pub const RELEASE: u32 = 2;
+// A number that is no operation's.
+#[derive(Clone, Copy, PartialEq, Eq)]
+pub struct NoKind(pub u32);
 
-pub const PROTECT: u32 = 3;
+impl TryFrom<u32> for Kind {
+    type Error = NoKind;
 
-pub const TRY: u32 = 4;
+    ghost use Rattle.rules.specs.Kind.{Decodes};
 
-pub const TRY_PROTECT: u32 = 5;
+    ghost try_from_gives = { Decodes };
 
-pub const RESET: u32 = 6;
-
-pub const RAW: u32 = 7;
-
-pub const SWAP: u32 = 8;
-
-pub const RETIRE: u32 = 9;
-
-pub const EAGER: u32 = 10;
-
-pub const CLEANUP: u32 = 11;
-
-pub const SHUTDOWN: u32 = 12;
+    fn try_from(n: u32) -> Result<Self, NoKind> {
+        match n {
+            1 => Ok(Kind::Acquire),
+            2 => Ok(Kind::Release),
+            3 => Ok(Kind::Protect),
+            4 => Ok(Kind::Try),
+            5 => Ok(Kind::TryProtect),
+            6 => Ok(Kind::Reset),
+            7 => Ok(Kind::Raw),
+            8 => Ok(Kind::Swap),
+            9 => Ok(Kind::Retire),
+            10 => Ok(Kind::Eager),
+            11 => Ok(Kind::Cleanup),
+            12 => Ok(Kind::Shutdown),
+            _ => Err(NoKind(n)),
+        }
+    }
+}

@@ -1,8 +1,11 @@
 // The types of the rules and the sizes of the tables. The rules themselves are the antt files of specs/.
 #![tactic(auto)]
 
+pub mod answer;
 pub mod kind;
-pub mod place;
+pub mod pc;
+
+use crate::pc::Pc;
 
 pub const RECORDS: u32 = 1024;
 
@@ -33,18 +36,52 @@ pub const FROM_ROWS: usize = FROM_RECORDS + RECORD_CELLS;
 // Steps after which every step is refused: 2^40.
 pub const STEPS: u64 = 1099511627776;
 
-// A node's states.
-pub const FREE: u32 = 0;
+// A node's states, which its cell holds as their numbers.
+#[derive(Clone, Copy, PartialEq, Eq)]
+pub enum NodeState {
+    Free,
+    Live,
+    Waiting,
+}
 
-pub const LIVE: u32 = 1;
+// Who holds a record, which its cell holds as a number: its row is unused, it is used and nobody's, or a thread's.
+#[derive(Clone, Copy, PartialEq, Eq)]
+pub enum Holder {
+    Unused,
+    Nobody,
+    Thread(u32),
+}
 
-pub const WAITING: u32 = 2;
+impl Holder {
+    ghost use Rattle.std.specs.Prelude.{◌≡◌};
+    ghost use Rattle.rules.specs.Holder.{held_by};
 
-// What comes back: document 01's number and value.
-#[derive(Clone, Copy)]
-pub struct Answer {
-    pub number: u32,
-    pub value: u64,
+    pub fn number(self) -> u64
+        ensures { result ≡ held_by self }
+    {
+        match self {
+            Holder::Unused => 0,
+            Holder::Nobody => 1,
+            Holder::Thread(t) => u64::from(t) + 2,
+        }
+    }
+}
+
+// What the shutdown's cell holds.
+#[derive(Clone, Copy, PartialEq, Eq)]
+pub enum Mark {
+    Open,
+    Closing,
+    Closed,
+}
+
+// What the test for done saw at the end of a pass, which a row keeps as its number: no pass has ended, a shard had nodes
+// left, all were empty.
+#[derive(Clone, Copy, PartialEq, Eq)]
+pub enum Done {
+    NotYet,
+    Left,
+    Empty,
 }
 
 // What a start asks for. A node is compared at 64 bits before it is narrowed.
@@ -67,7 +104,7 @@ pub enum Operation {
 // A thread's row between two steps; all 0 while the thread is idle.
 #[derive(Clone, Copy)]
 pub struct Row {
-    // The program place, and the operation by its kind in a frame.
+    // The program place and the operation, as `Pc` and `Kind`.
     pub place: u32,
     pub operation: u32,
     // The record that is acquired, released, stored to or scanned; the record seen at a head or behind it.
@@ -83,7 +120,7 @@ pub struct Row {
     pub reclaimable: u32,
     pub unreclaimed: u32,
     pub tail: u32,
-    // 0 before the end of a first pass, then 1 where a shard was seen not empty, 2 where all were seen empty.
+    // What the test for done saw last, as `Done`.
     pub done: u32,
     pub stolen: [u32; 8],
     // `count` as K1 or K3 saw it; what was taken from it, less what has been reclaimed since; all that was reclaimed.
@@ -93,6 +130,58 @@ pub struct Row {
     // `due_time` as E1 saw it, and E1's clock.
     pub due: u64,
     pub clock: u64,
+}
+
+impl Row {
+    ghost use Rattle.std.specs.Prelude.{◌≡◌};
+    ghost use Rattle.rules.specs.Rows.{go_to, shard_in, first};
+
+    // The row of a thread that is inside no operation.
+    pub const IDLE: Row = Row {
+        place: 0,
+        operation: 0,
+        rec: 0,
+        next: 0,
+        source: 0,
+        node: 0,
+        seen: 0,
+        shard: 0,
+        lone: 0,
+        reclaimable: 0,
+        unreclaimed: 0,
+        tail: 0,
+        done: 0,
+        stolen: [0; 8],
+        count: 0,
+        rcount: 0,
+        total: 0,
+        due: 0,
+        clock: 0,
+    };
+
+    // The row's shard; a row whose shard is out of range is refused as damaged in any case.
+    pub fn shard_in(self) -> u32
+        ensures { result ≡ shard_in self }
+    {
+        self.shard % SHARDS
+    }
+
+    // The first stolen node of its shard.
+    pub fn first(self) -> u32
+        ensures { result ≡ first self }
+    {
+        self.stolen[self.shard_in() as usize]
+    }
+
+    // The row of a thread that goes on at a place.
+    pub fn go_to(self, p: Pc) -> Row
+        ensures { result ≡ go_to p self }
+    {
+        Row {
+            place: p as u32,
+            ..self
+        }
+    }
 }
 
 // A shared cell by name. 0 is no record, source or node.

@@ -3,7 +3,9 @@ use Rattle.std.specs.Prelude.{◌≡◌, refl, ◌≢◌, ◌⊎◌, List, [], �
 use Rattle.std.proofs.Common.{sym, ap, subst, inl, inr, arith}
 use Rattle.std.proofs.Math.ListN.{length}
 use Rattle.rules.specs.Sizes.{threads, Settings}
-use Rattle.rules.specs.Pc.{Pc, pc_of, code}
+use Rattle.rules.specs.Pc.{pc_of, code}
+use Rattle.rules.specs.declared.pc.Pc.{Pc}
+use Rattle.rules.specs.declared.pc.Pc.TheVariants as Pc
 use Rattle.rules.specs.Rows.{idle}
 use Rattle.rules.specs.Places.{accesses, does, ends}
 use Rattle.rules.specs.Start.{begins}

@@ -1,205 +1,206 @@
-// Why a line was refused. Of a step that is answered 25 or 26, which ends its operation, the row as it was before says
-// all.
-use crate::sight::Sight;
-use rules::{LIVE, NODES, RECORDS, Row, THREADS};
+// Why a line was refused. Of a step that is answered NotRetirable or NoRecords, which ends its operation, the row as it
+// was before says all.
+use rows::{load_row, place};
+use rules::answer::Refusal;
+use rules::pc::Pc;
+use rules::{Mark, Named, NodeState, Operation, RECORDS, Row, SOURCES, THREADS};
+use std::fmt;
+use tables::{Lent, address, cut};
 use words::names;
-use words::text::{nth, number, say, say_number};
-use words::told::{START, Told};
+use words::told::Told;
 
-// The things that a line may name and that are not there.
-const THREAD: u32 = 0;
-
-const RECORD: u32 = 1;
-
-const SOURCE: u32 = 2;
-
-fn no_such(text: &mut [u8], at: usize, what: u32, n: u32) -> usize {
-    let k = say(text, at, b"there is no ");
-    let e = nth(text, k, b"thread ;record ;source ", what);
-    number(text, e, n as u64)
+#[derive(Clone, Copy)]
+pub enum Why {
+    // What is wrong with a line that is none.
+    TooShort,
+    TooLong,
+    WrongField,
+    NoDigits,
+    NoEnd,
+    TableSize,
+    OutOfRange,
+    // The things that a line may name and that are not there.
+    NoThread(u32),
+    NoRecord(u32),
+    NoSource(u32),
+    NoNode,
+    NothingToRetire,
+    ShuttingDown,
+    ShutDown,
+    StepLimit,
+    Idle,
+    Inside {
+        operation: u32,
+        place: Pc,
+    },
+    // A record, and what stands as its holder.
+    Record {
+        rec: u32,
+        holder: u64,
+    },
+    // A node, its state, and the source that it is in.
+    Node {
+        node: u64,
+        state: u64,
+        source: Option<u32>,
+    },
+    NodeWaits(u64),
+    NoRecords,
+    // The first thread that is inside an operation.
+    InUse {
+        thread: u32,
+        operation: u32,
+    },
 }
 
-// The owner of a record, by what stands as its holder.
-fn holder(text: &mut [u8], at: usize, h: u32) -> usize {
-    if h < 2 {
-        return nth(text, at, b" is not in use; is nobody's", h);
-    }
-    let k = say_number(text, at, b" is thread ", h as u64 - 2);
-    say(text, k, b"'s")
-}
-
-// 22: the record, and whose it is.
-fn record(text: &mut [u8], at: usize, s: Sight) -> usize {
-    if s.rec == 0 {
-        return no_such(text, at, RECORD, 0);
-    }
-    if RECORDS < s.rec {
-        return no_such(text, at, RECORD, s.rec);
-    }
-    let k = say_number(text, at, b"record ", s.rec as u64);
-    holder(text, k, s.holder)
-}
-
-// 25: what keeps a node from being retired.
-fn state(text: &mut [u8], at: usize, s: Sight) -> usize {
-    if s.state == LIVE {
-        return say_number(text, at, b" is in source ", s.source);
-    }
-    nth(text, at, b" is free;; is waiting", s.state)
-}
-
-fn node(text: &mut [u8], at: usize, n: u64, s: Sight) -> usize {
-    let k = say_number(text, at, b"node ", n);
-    if n == 0 {
-        return k;
-    }
-    if (NODES as u64) < n {
-        return k;
-    }
-    state(text, k, s)
-}
-
-// 20: what the thread is doing.
-fn inside(text: &mut [u8], at: usize, row: Row) -> usize {
-    let k = say(text, at, b"inside ");
-    let e = names::operation(text, k, row.operation);
-    let f = say(text, e, b", at ");
-    names::place(text, f, row.place)
-}
-
-// 27: what a shutdown has to wait for.
-fn waits(text: &mut [u8], at: usize, s: Sight) -> usize {
-    if s.busy < THREADS {
-        let k = say_number(text, at, b"thread ", s.busy as u64);
-        let e = say(text, k, b" is in ");
-        return names::operation(text, e, s.operation);
-    }
-    record(text, at, s)
-}
-
-// What needs no number, by its place among the words; a shutdown's mark, 1 or 2, is the place of its own.
-const SIZE: u32 = 0;
-
-const STEPS: u32 = 3;
-
-const IDLE: u32 = 4;
-
-const ZERO: u32 = 5;
-
-const NODE: u32 = 6;
-
-const FULL: u32 = 7;
-
-const RANGE: u32 = 8;
-
-fn plainly(text: &mut [u8], at: usize, k: u32) -> usize {
-    nth(
-        text,
-        at,
-        b"a table has a wrong size;shutdown is under way;shutdown is over;2^40 steps were taken;\
-          the thread is idle;no node to retire;nodes end at 4096;no record left;\
-          a cell is out of range",
-        k,
-    )
-}
-
-// 24: no such node; 0 is none to retire.
-fn no_node(text: &mut [u8], at: usize, node: u64) -> usize {
-    if node == 0 {
-        return plainly(text, at, ZERO);
-    }
-    plainly(text, at, NODE)
-}
-
-// 25: the node of a swap.
-fn swapped(text: &mut [u8], at: usize, node: u64) -> usize {
-    let k = say_number(text, at, b"node ", node);
-    say(text, k, b" waits")
-}
-
-fn of_start(text: &mut [u8], at: usize, w: Told, row: Row, s: Sight, answer: u32) -> usize {
-    match answer {
-        17 => no_such(text, at, THREAD, w.thread),
-        18 => plainly(text, at, s.mark),
-        20 => inside(text, at, row),
-        22 => record(text, at, s),
-        23 => no_such(text, at, SOURCE, w.source),
-        24 => no_node(text, at, w.node),
-        25 => node(text, at, w.node, s),
-        27 => waits(text, at, s),
-        29 => plainly(text, at, RANGE),
-        _ => plainly(text, at, SIZE),
+impl fmt::Display for Why {
+    fn fmt<W: fmt::Write>(&self, f: &mut fmt::Formatter<W>) -> fmt::Result {
+        match *self {
+            Why::TooShort => f.write_str("fewer than 28 characters"),
+            Why::TooLong => f.write_str("more than 28 characters"),
+            Why::WrongField => f.write_str("wrong kind or field"),
+            Why::NoDigits => f.write_str("not hexadecimal digits"),
+            Why::NoEnd => f.write_str("the line has no end"),
+            Why::TableSize => f.write_str("a table has a wrong size"),
+            Why::OutOfRange => f.write_str("a cell is out of range"),
+            Why::NoThread(t) => write!(f, "there is no thread {t}"),
+            Why::NoRecord(r) => write!(f, "there is no record {r}"),
+            Why::NoSource(b) => write!(f, "there is no source {b}"),
+            Why::NoNode => f.write_str("nodes end at 4096"),
+            Why::NothingToRetire => f.write_str("no node to retire"),
+            Why::ShuttingDown => f.write_str("shutdown is under way"),
+            Why::ShutDown => f.write_str("shutdown is over"),
+            Why::StepLimit => f.write_str("2^40 steps were taken"),
+            Why::Idle => f.write_str("the thread is idle"),
+            Why::Inside { operation, place } => write!(
+                f,
+                "inside {}, at {}",
+                names::operation(operation),
+                names::place(place)
+            ),
+            // A holder is a number: 0 of a row that is not taken, 1 of nobody, t + 2 of thread t.
+            Why::Record { rec, holder: 0 } => write!(f, "record {rec} is not in use"),
+            Why::Record { rec, holder: 1 } => write!(f, "record {rec} is nobody's"),
+            Why::Record { rec, holder } => {
+                let thread = holder.wrapping_sub(2);
+                write!(f, "record {rec} is thread {thread}'s")
+            }
+            Why::Node {
+                node,
+                source: Some(source),
+                ..
+            } => write!(f, "node {node} is in source {source}"),
+            Why::Node {
+                node,
+                state,
+                source: None,
+            } if state == NodeState::Free as u64 => write!(f, "node {node} is free"),
+            Why::Node { node, .. } => write!(f, "node {node} is waiting"),
+            Why::NodeWaits(node) => write!(f, "node {node} waits"),
+            Why::NoRecords => f.write_str("no record left"),
+            Why::InUse { thread, operation } => {
+                write!(f, "thread {thread} is in {}", names::operation(operation))
+            }
+        }
     }
 }
 
-fn of_step(text: &mut [u8], at: usize, w: Told, answer: u32) -> usize {
-    match answer {
-        17 => no_such(text, at, THREAD, w.thread),
-        19 => plainly(text, at, STEPS),
-        21 => plainly(text, at, IDLE),
-        25 => swapped(text, at, w.node),
-        26 => plainly(text, at, FULL),
-        29 => plainly(text, at, RANGE),
-        _ => plainly(text, at, SIZE),
-    }
+fn cell(tables: &Lent, c: Named) -> u64 {
+    tables.fetch(address(c))
 }
 
-// Why a start or a step was refused.
-pub fn why(text: &mut [u8], at: usize, w: Told, row: Row, s: Sight, answer: u32) -> usize {
-    if w.form == START {
-        return of_start(text, at, w, row, s, answer);
+impl Why {
+    // Why a step was refused.
+    pub fn of_step(thread: u32, row: Row, refusal: Refusal) -> Why {
+        match refusal {
+            Refusal::Thread => Why::NoThread(thread),
+            Refusal::StepLimit => Why::StepLimit,
+            Refusal::Idle => Why::Idle,
+            Refusal::NotRetirable => Why::NodeWaits(u64::from(row.node)),
+            Refusal::NoRecords => Why::NoRecords,
+            Refusal::OutOfRange => Why::OutOfRange,
+            _ => Why::TableSize,
+        }
     }
-    of_step(text, at, w, answer)
-}
 
-fn is_hex(b: u8) -> bool {
-    if b < b'0' {
-        return false;
+    // Why a start was refused.
+    pub fn of_start(tables: &Lent, thread: u32, o: Operation, row: Row, refusal: Refusal) -> Why {
+        let told = Told::from(o);
+        match refusal {
+            Refusal::Thread => Why::NoThread(thread),
+            Refusal::ShutDown if cell(tables, Named::Shutdown) == Mark::Closing as u64 =>
+                Why::ShuttingDown,
+            Refusal::ShutDown => Why::ShutDown,
+            Refusal::Inside => Why::Inside {
+                operation: row.operation,
+                place: Pc::from(row.place),
+            },
+            Refusal::Record => Why::of_record(tables, told.rec),
+            Refusal::Source => Why::NoSource(told.source),
+            Refusal::Node if told.node == 0 => Why::NothingToRetire,
+            Refusal::Node => Why::NoNode,
+            Refusal::NotRetirable => Why::of_node(tables, told.node),
+            Refusal::InUse => Why::of_shutdown(tables),
+            Refusal::OutOfRange => Why::OutOfRange,
+            _ => Why::TableSize,
+        }
     }
-    if b <= b'9' {
-        return true;
-    }
-    if b < b'a' {
-        return false;
-    }
-    b <= b'f'
-}
 
-fn all_hex(bytes: &[u8]) -> bool {
-    let mut i = 0usize;
-    while i < bytes.len() {
-        if is_hex(bytes[i]) {
-            i += 1;
+    // The record, and whose it is.
+    fn of_record(tables: &Lent, rec: u32) -> Why {
+        if rec == 0 || RECORDS < rec {
+            Why::NoRecord(rec)
         } else {
-            return false;
+            Why::Record {
+                rec,
+                holder: cell(tables, Named::Holder(rec)),
+            }
         }
     }
-    true
-}
 
-fn fault(bytes: &[u8], whole: bool) -> u32 {
-    if whole {
-        if bytes.len() < 28 {
-            return 0;
+    // What keeps a node from being retired.
+    fn of_node(tables: &Lent, node: u64) -> Why {
+        let state = cell(tables, Named::NodeState(cut(node)));
+        let source = if state == NodeState::Live as u64 {
+            (1..=SOURCES).find(|b| cell(tables, Named::Source(*b)) == node)
+        } else {
+            None
+        };
+        Why::Node {
+            node,
+            state,
+            source,
         }
-        if 28 < bytes.len() {
-            return 1;
-        }
-        if all_hex(bytes) {
-            return 2;
-        }
-        return 3;
     }
-    4
-}
 
-// 28: what is wrong with a line.
-pub fn bad(text: &mut [u8], at: usize, bytes: &[u8], whole: bool) -> usize {
-    nth(
-        text,
-        at,
-        b"fewer than 28 characters;more than 28 characters;wrong kind or field;\
-          not hexadecimal digits;the line has no end",
-        fault(bytes, whole),
-    )
+    // What a shutdown has to wait for.
+    fn of_shutdown(tables: &Lent) -> Why {
+        if let Some(thread) = (0..THREADS).find(|t| place(tables, *t) != Pc::Idle as u32) {
+            return Why::InUse {
+                thread,
+                operation: load_row(tables, thread).operation,
+            };
+        }
+        match (1..=RECORDS).find(|r| 1 < cell(tables, Named::Holder(*r))) {
+            Some(rec) => Why::of_record(tables, rec),
+            // A shutdown is refused for a thread or a record: one of them is found.
+            None => Why::NoRecord(0),
+        }
+    }
+
+    // What is wrong with a line that is none.
+    pub fn of_bytes(bytes: &[u8], is_whole: bool) -> Why {
+        if !is_whole {
+            return Why::NoEnd;
+        }
+        match bytes.len() {
+            0..=27 => Why::TooShort,
+            28
+                if bytes
+                    .iter()
+                    .all(|b| matches!(*b, b'0'..=b'9' | b'a'..=b'f')) => Why::WrongField,
+            28 => Why::NoDigits,
+            _ => Why::TooLong,
+        }
+    }
 }

@@ -1,137 +1,164 @@
 // Standard input by blocks and by lines, and standard output through a buffer.
 #![tactic(auto)]
 
-ghost use Rattle.std.specs.Prelude.{◌-◌, ◌≤◌, length, ◌≡◌, false, eqb, ltb};
-ghost use Rattle.base.specs.Pick.{pick};
+ghost use Rattle.std.specs.Prelude.{◌≡◌, ◌≢◌, ◌+◌, ◌-◌, ◌<◌, ◌≤◌, [], length, take, drop, ◌↔◌, IsTrue, false, None, Some};
+ghost use Rattle.std.specs.Borrow.{sem};
+ghost use Rattle.std.specs.Io.BufRead.{Rests};
+ghost use Rattle.std.specs.Io.KnownBytes.{Appends, append_known};
+ghost use Rattle.texts.specs.Lines.{up_to};
+ghost use Rattle.streams.specs.contracts.Input.{the_row};
+ghost use Rattle.streams.specs.declared.End.{End};
 
 use std::io::{Read, Write};
+use std::marker::Model;
+use texts::Text;
 
-// The part of the input buffer that is read and not yet taken.
-#[derive(Clone, Copy)]
-pub struct Window {
-    pub at: usize,
-    pub end: usize,
+// An input, and of the block that was read from it the part that is not yet taken.
+#[derive(Drop)]
+pub struct Input<R, const N: usize> {
+    from: R,
+    bytes: [u8; N],
+    at: usize,
+    end: usize,
 }
 
-// More bytes are read where none are left; the part stays empty at the end of the input, and where a read fails.
-pub fn more<R: Read>(from: &mut R, input: &mut [u8], w: Window) -> Window
-    ensures { (result.at ≤ result.end) × (result.end ≤ length input.new) }
-{
-    if w.at < w.end {
-        if w.end <= input.len() {
-            return w;
+// It stands for the bytes that were read and are not yet taken.
+impl<R, const N: usize> Model for Input<R, N> {
+    ghost use Rattle.std.specs.Prelude.{ℕ, ◌-◌, ◌≤◌, List, take, drop};
+
+    ghost Value = { List ℕ };
+
+    ghost view = { λ i. take (i.end - i.at) (drop i.at i.bytes) };
+
+    ghost invariant = { λ i. (i.at ≤ i.end) × (i.end ≤ N) };
+}
+
+// How a line of the input ends.
+#[derive(Clone, Copy, PartialEq, Eq)]
+pub enum End {
+    Newline,
+    Input,
+}
+
+impl<R: Read, const N: usize> Input<R, N> {
+    pub fn new(from: R) -> Self
+        ensures { result ≡ [] }
+    {
+        Input {
+            from,
+            bytes: [0; N],
+            at: 0,
+            end: 0,
         }
     }
-    match from.read(input) {
-        Ok(n) => Window { at: 0, end: n },
-        Err(_) => Window { at: 0, end: 0 },
+
+    // Whether all that was read is taken.
+    pub fn is_taken(&self) -> bool
+        ensures { IsTrue result ↔ (self.now ≡ []) }
+    {
+        self.at == self.end
     }
-}
 
-// A line of the input: its bytes in the line buffer, cut to what that holds; whether it has its newline; and what is
-// left of the input buffer. At the end of the input a line has no bytes and no newline.
-#[derive(Clone, Copy)]
-pub struct Line {
-    pub len: usize,
-    pub whole: bool,
-    pub left: Window,
-}
-
-// The next line.
-pub fn read_line<R: Read>(from: &mut R, input: &mut [u8], line: &mut [u8], w: Window) -> Line
-    ensures { result.len ≤ length line.new }
-{
-    let mut v = w;
-    let mut len = 0usize;
-    // A proved loop has to end; no line has so many blocks.
-    let mut turns = u64::MAX;
-    while turns > 0 {
-        v = more(from, input, v);
-        let at = v.at;
-        let end = v.end;
-        if at == end {
-            break;
+    // What is read and not yet taken. More is read where nothing is; it stays empty at the end of the input, and where a
+    // read fails.
+    pub fn fill(&mut self) -> &[u8]
+        ensures* held { sem 𝓛 (Rests (the_row R.row N.row) self.entry (λ new. result.now ≡ new)) }
+        ensures left { self.old ≢ [] → result.now ≡ self.old }
+    {
+        if self.is_taken() {
+            let n = self.from.read(&mut self.bytes).unwrap_or(0);
+            self.at = 0;
+            self.end = n;
         }
-        let part = &input[at..end];
-        let g = texts::gather(line, len, part, 0);
-        len = g.len;
-        if g.at < end - at {
-            return Line {
-                len: len,
-                whole: true,
-                left: Window {
-                    at: at + g.at + 1,
-                    end: end,
-                },
-            };
+        let input = &*self;
+        let bytes = &input.bytes[..];
+        &bytes[input.at..input.end]
+    }
+
+    // The first n bytes of it are taken.
+    pub fn take(&mut self, n: usize)
+        ensures { self.new ≡ drop n self.old }
+    {
+        self.at += n.min(self.end - self.at);
+    }
+
+    // The next line is in the text, cut to its room. At the end of the input there is none.
+    #[tactic(auto, using(crate::proofs::Lines::front_first))]
+    pub fn read_line<const L: usize>(&mut self, line: &mut Text<L>) -> Option<End>
+        ensures none { result ≡ None → line.new ≡ [] }
+        ensures rest { result ≡ Some End.Input → 0 < length line.new }
+        ensures taken { result ≢ Some End.Newline → self.new ≡ [] }
+        ensures front { take (length (up_to self.old)) line.new ≡ take L (up_to self.old) }
+        ensures left { length (up_to self.old) < length self.old → (result ≡ Some End.Newline) × (line.new ≡ take L (up_to self.old)) × (self.new ≡ drop (length (up_to self.old) + 1) self.old) }
+    {
+        line.clear();
+        for _ in 0..u64::MAX {
+            let block = self.fill();
+            if block.is_empty() {
+                break;
+            }
+            let n = line.gather(block);
+            let is_whole = n < block.len();
+            self.take(n + is_whole as usize);
+            if is_whole {
+                return Some(End::Newline);
+            }
         }
-        v = Window { at: end, end: end };
-        turns -= 1;
-    }
-    Line {
-        len: len,
-        whole: false,
-        left: v,
-    }
-}
-
-// Whether the input had no line left.
-pub fn is_end(l: Line) -> bool
-    ensures { result ≡ pick l.whole false (eqb l.len 0) }
-{
-    if l.whole {
-        return false;
-    }
-    l.len == 0
-}
-
-// The output buffer: how many bytes it holds, and whether the output still takes any.
-#[derive(Clone, Copy)]
-pub struct Out {
-    pub used: usize,
-    pub open: bool,
-}
-
-// What the buffer holds is written out. Where a write fails the output takes no more.
-pub fn flush<W: Write>(to: &mut W, out: &[u8], o: Out) -> Out
-    ensures { result.used ≡ 0 }
-{
-    let used = o.used;
-    if o.open {
-        if used <= out.len() {
-            let from = 0usize;
-            let full = &out[from..used];
-            let is_written = to.write_all(full).is_ok();
-            return Out {
-                used: 0,
-                open: is_written,
-            };
+        if line.len() == 0 {
+            None
+        } else {
+            Some(End::Input)
         }
     }
-    Out {
-        used: 0,
-        open: false,
-    }
 }
 
-// The same before the program waits for more input.
-pub fn settle<W: Write>(to: &mut W, out: &[u8], o: Out, w: Window) -> Out
-    ensures { result.used ≡ pick (ltb w.at w.end) o.used 0 }
-{
-    if w.at < w.end {
-        return o;
-    }
-    flush(to, out, o)
+// An output, and what is to be written to it.
+#[derive(Drop)]
+pub struct Output<W, const N: usize> {
+    to: W,
+    pub text: Text<N>,
+    // Whether the output still takes any.
+    is_open: bool,
 }
 
-// Room for n bytes, if the buffer has so many: it is written out where fewer are left.
-pub fn room<W: Write>(to: &mut W, out: &[u8], o: Out, n: usize) -> Out
-    ensures { result.used ≤ length out.now - n }
-{
-    if o.used <= out.len() {
-        if n <= out.len() - o.used {
-            return o;
+impl<W: Write, const N: usize> Output<W, N> {
+    pub fn new(to: W) -> Self
+        ensures { (result.text ≡ []) × IsTrue result.is_open }
+    {
+        Output {
+            to,
+            text: Text::new(),
+            is_open: true,
         }
     }
-    flush(to, out, o)
+
+    pub fn is_open(&self) -> bool
+        ensures { result ≡ self.now.is_open }
+    {
+        self.is_open
+    }
+
+    // What the buffer holds is written out. Where a write fails the output takes no more.
+    pub fn flush(&mut self)
+        ensures text { self.new.text ≡ [] }
+        ensures written { IsTrue self.new.is_open → Appends (W.contents self.old.to) (W.contents self.new.to) self.old.text }
+        ensures closed { self.old.is_open ≡ false → self.new.is_open ≡ false }
+    {
+        if self.is_open {
+            self.is_open = self.to.write_all(self.text.as_bytes()).is_ok();
+        }
+        self.text.clear();
+    }
+
+    // Room for n bytes, if the buffer has so many: it is written out where fewer are left.
+    pub fn room(&mut self, n: usize)
+        ensures room { length self.new.text ≤ N - n }
+        ensures kept { n ≤ N - length self.old.text → self.new ≡ self.old }
+        ensures none_lost { IsTrue self.new.is_open → Appends (W.contents self.old.to) (append_known (W.contents self.new.to) self.new.text) self.old.text }
+        ensures closed { self.old.is_open ≡ false → self.new.is_open ≡ false }
+    {
+        if N - self.text.len() < n {
+            self.flush();
+        }
+    }
 }

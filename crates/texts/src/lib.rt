@@ -1,68 +1,29 @@
-// Words and decimal numbers as bytes, written into a lent slice from an index on.
+// Texts of a fixed room: words, decimal numbers, and the lines of an input.
 #![tactic(auto)]
 
-ghost use Rattle.std.specs.Prelude.{◌≡◌, ◌+◌, ◌-◌, ◌≤◌, ◌<◌, length, take, drop, [], ◌∷◌, ◌++◌};
+ghost use Rattle.std.specs.Prelude.{◌≡◌, ℕ, ◌+◌, ◌-◌, ◌≤◌, List, [], ◌∷◌, ◌++◌, length, take, drop, min, ◌<◌, ◌≢◌, MatchOption, EachIndex, slice_index};
 ghost use Rattle.std.proofs.lemmas.List.Edits.{sets};
 ghost use Rattle.texts.specs.Lines.{up_to};
-ghost use Rattle.texts.specs.Texts.{width_of, digits_of, decimal_of, signed_of, line_of, signed_line_of, field_line_of};
+ghost use Rattle.texts.specs.Texts.{decimal_of, signed_of, line_of, signed_line_of, field_line_of};
 
-// How many decimal digits a number has.
-fn width(x: u64) -> usize
-    ensures { (result ≡ width_of 19 x) × (result ≤ 20) }
+use std::fmt;
+use std::marker::Model;
+
+// As many of the bytes as there is room for are written from at on; the index after them. By an index, since a replay's
+// answers go into a slice that its caller lends.
+#[tactic(auto, using(crate::proofs::Fills::put_in_place))]
+pub fn fill(out: &mut [u8], at: usize, bytes: &[u8]) -> usize
+    ensures written { out.new ≡ sets out.old at (take (length out.old - at) bytes.now) }
+    ensures behind { result ≡ at + length (take (length out.old - at) bytes.now) }
+    ensures within { result ≤ at + (length out.old - at) }
 {
-    let mut n = 1usize;
-    let mut rest = x;
-    while n < 20 {
-        if rest < 10 {
-            return n;
-        }
-        rest = rest / 10;
-        n += 1;
+    if out.len() < at {
+        return at;
     }
-    n
-}
-
-fn digit(d: u64) -> u8
-    requires { d < 10 }
-    ensures { result ≡ 48 + d }
-{
-    b'0' + d as u8
-}
-
-// The last n digits of x are written from at on.
-fn put(out: &mut [u8], at: usize, n: usize, x: u64)
-    requires { at + n ≤ length out.old }
-    ensures { out.new ≡ sets out.old at (digits_of n x) }
-{
-    let mut k = n;
-    let mut rest = x;
-    while 0 < k {
-        k -= 1;
-        out[at + k] = digit(rest % 10);
-        rest = rest / 10;
-    }
-}
-
-// The number is written from at on; the index after it.
-pub fn decimal(out: &mut [u8], at: usize, x: u64) -> usize
-    requires { at + 20 ≤ length out.old }
-    ensures { (out.new ≡ sets out.old at (decimal_of x)) × (result ≡ at + length (decimal_of x)) × (result ≤ at + 20) }
-{
-    let n = width(x);
-    put(out, at, n, x);
-    at + n
-}
-
-// The same, x standing for the signed number of the same 64 bits.
-pub fn signed(out: &mut [u8], at: usize, x: u64) -> usize
-    requires { at + 21 ≤ length out.old }
-    ensures { (out.new ≡ sets out.old at (signed_of x)) × (result ≡ at + length (signed_of x)) × (result ≤ at + 21) }
-{
-    if x < 9223372036854775808 {
-        return decimal(out, at, x);
-    }
-    out[at] = b'-';
-    decimal(out, at + 1, 18446744073709551615 - x + 1)
+    let n = bytes.len().min(out.len() - at);
+    let end = at + n;
+    out[at..end].copy_from_slice(&bytes[..n]);
+    end
 }
 
 // The bytes are written from at on; the index after them.
@@ -70,111 +31,177 @@ pub fn word(out: &mut [u8], at: usize, bytes: &[u8]) -> usize
     requires { at + length bytes.now ≤ length out.old }
     ensures { (out.new ≡ sets out.old at bytes.now) × (result ≡ at + length bytes.now) }
 {
-    let mut i = 0usize;
-    while i < bytes.len() {
-        out[at + i] = bytes[i];
-        i += 1;
-    }
-    at + i
+    fill(out, at, bytes)
 }
 
-// As many of the bytes as there is room for are written from at on; the index after them.
-pub fn fill(out: &mut [u8], at: usize, bytes: &[u8]) -> usize
-    ensures { (out.new ≡ sets out.old at (take (length out.old - at) bytes.now)) × (result ≡ at + length (take (length out.old - at) bytes.now)) × (result ≤ at + (length out.old - at)) }
+// Where the first newline stands.
+fn newline(input: &[u8]) -> Option<usize>
+    ensures { MatchOption result (EachIndex input.now (λ k. slice_index input.now k ≢ 10)) (λ i. (i < length input.now) × (slice_index input.now i ≡ 10) × ((k : ℕ) → k < i → slice_index input.now k ≢ 10)) }
 {
-    if out.len() <= at {
-        return at;
-    }
-    let room = out.len() - at;
-    if bytes.len() <= room {
-        return word(out, at, bytes);
-    }
-    let from = 0usize;
-    let part = &bytes[from..room];
-    word(out, at, part)
+    input.iter().position(|b| *b == b'\n')
 }
 
-// How much of a line the buffer holds, and where its newline stands in the input; the input's end if there is none.
-#[derive(Drop)]
-pub struct Gathered {
-    pub len: usize,
-    pub at: usize,
-}
-
-// How many bytes the first `len` of the buffer are.
-fn held(line: &[u8], len: usize) -> usize
-    ensures { (take result line.now ≡ take len line.now) × (result ≤ length line.now) }
+// How many bytes stand before the first newline.
+#[tactic(auto, using(crate::proofs::Lines::up_to_length))]
+fn line_len(bytes: &[u8]) -> usize
+    ensures value { result ≡ length (up_to bytes.now) }
+    ensures within { result ≤ length bytes.now }
 {
-    if len <= line.len() {
-        return len;
-    }
-    line.len()
+    newline(bytes).unwrap_or(bytes.len())
 }
 
-// A byte goes behind the first n of the buffer, if there is room.
-fn keep(line: &mut [u8], n: usize, b: u8) -> usize
-    requires { n ≤ length line.old }
-    ensures { (take result line.new ≡ take (length line.old) (take n line.old ++ b ∷ [])) × (result ≤ length line.old) }
+// The decimal digits of x, at the end of the array; where they begin.
+fn write_digits(x: u64, out: &mut [u8; 20]) -> usize
+    ensures within { result ≤ 20 }
+    ensures value { drop result out.new ≡ decimal_of x }
 {
-    if n < line.len() {
-        line[n] = b;
-        return n + 1;
-    }
-    n
-}
-
-// The input's bytes from `at` up to the next newline go behind the first `len` of the buffer, as far as there is room.
-pub fn gather(line: &mut [u8], len: usize, input: &[u8], at: usize) -> Gathered
-    ensures { (take result.len line.new ≡ take (length line.old) (take len line.old ++ up_to (drop at input.now))) × (result.at ≡ at + length (up_to (drop at input.now))) × (result.len ≤ length line.old) }
-{
-    let mut n = held(line, len);
-    let mut i = at;
-    while i < input.len() {
-        let b = input[i];
-        let is_newline = b == b'\n';
-        if is_newline {
-            return Gathered { len: n, at: i };
+    let mut rest = x;
+    for at in (0..20).rev() {
+        out[at] = b'0' + (rest % 10) as u8;
+        rest /= 10;
+        if rest == 0 {
+            return at;
         }
-        n = keep(line, n, b);
-        i += 1;
     }
-    Gathered { len: n, at: i }
+    0
 }
 
-fn newline(out: &mut [u8], at: usize) -> usize
-    requires { at < length out.old }
-    ensures { (out.new ≡ sets out.old at (10 ∷ [])) × (result ≡ at + 1) }
-{
-    out[at] = 10;
-    at + 1
+// A text of at most N bytes, which is written at its end. What finds no room is cut. It begins as N blanks, and its end
+// at their front: an end that moves on to a column leaves what stands there, blanks where nothing was written.
+#[derive(Drop)]
+pub struct Text<const N: usize> {
+    bytes: [u8; N],
+    len: usize,
 }
 
-// A line: a name and a number.
-pub fn line(out: &mut [u8], at: usize, name: &[u8], x: u64) -> usize
-    requires { at + length name.now + 21 ≤ length out.old }
-    ensures { (out.new ≡ sets out.old at (line_of name.now x)) × (result ≡ at + length (line_of name.now x)) × (result ≤ at + length name.now + 21) }
-{
-    let k = word(out, at, name);
-    let e = decimal(out, k, x);
-    newline(out, e)
+impl<const N: usize> Model for Text<N> {
+    ghost Value = { List ℕ };
+
+    ghost view = { λ t. take t.len t.bytes };
+
+    ghost invariant = { λ t. t.len ≤ N };
 }
 
-// The same with a signed number.
-pub fn signed_line(out: &mut [u8], at: usize, name: &[u8], x: u64) -> usize
-    requires { at + length name.now + 22 ≤ length out.old }
-    ensures { (out.new ≡ sets out.old at (signed_line_of name.now x)) × (result ≡ at + length (signed_line_of name.now x)) × (result ≤ at + length name.now + 22) }
-{
-    let k = word(out, at, name);
-    let e = signed(out, k, x);
-    newline(out, e)
+impl<const N: usize> Text<N> {
+    pub fn new() -> Self
+        ensures { result ≡ [] }
+    {
+        Text {
+            bytes: [b' '; N],
+            len: 0,
+        }
+    }
+
+    pub fn len(&self) -> usize
+        ensures len { result ≡ length self.now }
+        ensures within { result ≤ N }
+    {
+        self.len
+    }
+
+    pub fn as_bytes(&self) -> &[u8]
+        ensures { result.now ≡ self.now }
+    {
+        &self.bytes[..self.len]
+    }
+
+    pub fn clear(&mut self)
+        ensures { self.new ≡ [] }
+    {
+        self.len = 0;
+    }
+
+    // The end moves to a column, or behind the last one. What stands between is as it was.
+    pub fn go_to(&mut self, column: usize)
+        ensures column { length self.new ≡ min column N }
+        ensures front { take (length self.old) self.new ≡ take column self.old }
+    {
+        self.len = column.min(N);
+    }
+
+    #[tactic(auto, using(crate::proofs::Fills::filled))]
+    pub fn say(&mut self, words: &[u8])
+        ensures { self.new ≡ take N (self.old ++ words.now) }
+    {
+        self.len = fill(&mut self.bytes, self.len, words);
+    }
+
+    pub fn put(&mut self, byte: u8)
+        ensures { self.new ≡ take N (self.old ++ byte ∷ []) }
+    {
+        self.say(&[byte]);
+    }
+
+    #[tactic(auto, using(crate::proofs::Digits::decimal_digit))]
+    pub fn number(&mut self, x: u64)
+        ensures { self.new ≡ take N (self.old ++ decimal_of x) }
+    {
+        // Most numbers of a listing have one digit.
+        if x < 10 {
+            return self.put(b'0' + x as u8);
+        }
+        let mut digits = [0u8; 20];
+        let at = write_digits(x, &mut digits);
+        self.say(&digits[at..]);
+    }
+
+    // x stands for the signed number of the same 64 bits.
+    #[tactic(auto, unfolding(crate::specs::Texts::signed_of))]
+    pub fn signed(&mut self, x: u64)
+        ensures { self.new ≡ take N (self.old ++ signed_of x) }
+    {
+        let n = x.cast_signed();
+        if n < 0 {
+            self.put(b'-');
+        }
+        self.number(n.unsigned_abs());
+    }
+
+    // A line: a name and a number.
+    pub fn line(&mut self, name: &[u8], x: u64)
+        ensures { self.new ≡ take N (self.old ++ line_of name.now x) }
+    {
+        self.say(name);
+        self.number(x);
+        self.put(b'\n');
+    }
+
+    // The same with a signed number.
+    pub fn signed_line(&mut self, name: &[u8], x: u64)
+        ensures { self.new ≡ take N (self.old ++ signed_line_of name.now x) }
+    {
+        self.say(name);
+        self.signed(x);
+        self.put(b'\n');
+    }
+
+    // A line: a name, the number of what it names, a field of that and its content.
+    pub fn field_line(&mut self, name: &[u8], id: u64, field: &[u8], x: u64)
+        ensures { self.new ≡ take N (self.old ++ field_line_of name.now id field.now x) }
+    {
+        self.say(name);
+        self.number(id);
+        self.line(field, x);
+    }
+
+    // The input's bytes up to its first newline; how many stand before that.
+    #[tactic(auto, using(crate::proofs::Lines::up_to_first))]
+    pub fn gather(&mut self, input: &[u8]) -> usize
+        ensures text { self.new ≡ take N (self.old ++ up_to input.now) }
+        ensures taken { result ≡ length (up_to input.now) }
+        ensures within { result ≤ length input.now }
+    {
+        let n = line_len(input);
+        self.say(&input[..n]);
+        n
+    }
 }
 
-// A line: a name, the number of what it names, a field of that and its content.
-pub fn field_line(out: &mut [u8], at: usize, name: &[u8], id: u64, field: &[u8], x: u64) -> usize
-    requires { at + length name.now + length field.now + 41 ≤ length out.old }
-    ensures { (out.new ≡ sets out.old at (field_line_of name.now id field.now x)) × (result ≡ at + length (field_line_of name.now id field.now x)) × (result ≤ at + length name.now + length field.now + 41) }
-{
-    let k = word(out, at, name);
-    let e = decimal(out, k, id);
-    line(out, e, field, x)
+impl<const N: usize> fmt::Write for Text<N> {
+    ghost write_str_gives = { λ s bytes t. t ≡ take N (s ++ bytes) };
+
+    fn write_str(&mut self, s: &str) -> fmt::Result {
+        self.say(s.as_bytes());
+        Ok(())
+    }
 }

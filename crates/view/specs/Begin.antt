@@ -10,7 +10,7 @@ use Rattle.std.proofs.Math.Decide.{dec_lt}
 use native.Mathlib.Omega.{arith}
 use Rattle.base.specs.Pick.{pick}
 use Rattle.rules.specs.Sizes.{records, sources, nodes, threads, row32, Settings}
-use Rattle.rules.specs.Pc
+use Rattle.rules.specs.declared.pc.Pc.TheVariants as Pc
 use Rattle.rules.specs.Pc.{code}
 use Rattle.rules.specs.Cells
 use Rattle.rules.specs.Cells.{address, cell_at, nowhere}

@@ -6,7 +6,7 @@ use Rattle.std.proofs.Math.Logic.{inl, inr}
 use Rattle.base.specs.Pick.{pick}
 use Rattle.rules.specs.Sizes.{threads, Settings}
 use Rattle.rules.specs.Words.{with_lock}
-use Rattle.rules.specs.Pc.{Pc}
+use Rattle.rules.specs.declared.pc.Pc.{Pc}
 use Rattle.rules.specs.Rows.{shard_in, stealing}
 use Rattle.rules.specs.Places.{accesses, does, ends, damaged}
 use Rattle.rules.specs.declared.Row.{Row}

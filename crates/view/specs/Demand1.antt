@@ -7,7 +7,7 @@ use Rattle.rules.specs.Sizes.{Settings}
 use Rattle.rules.specs.Rows.{idle, stored32, stored64}
 use Rattle.rules.specs.Step.{State, Out, state, ticked, step_of}
 use Rattle.rules.specs.Start.{start_of}
-use Rattle.rules.specs.declared.Answer.{Answer}
+use Rattle.rules.specs.declared.answer.Answer.{Answer}
 use Rattle.rules.specs.declared.Operation.{Operation}
 use Rattle.view.specs.Given.{idled}
 use Rattle.view.specs.Turn.{Turn, step_turn}

@@ -6,7 +6,8 @@ use Rattle.std.proofs.Math.ListN.{get_or-map}
 use Rattle.std.proofs.Math.Decide.{dec_lt}
 use Rattle.base.specs.Pick.{pick, both, is-both}
 use Rattle.rules.specs.Sizes.{records, sources, nodes, threads, row32, Settings}
-use Rattle.rules.specs.Pc.{Pc, order, pc_of, code}
+use Rattle.rules.specs.Pc.{order, pc_of, code}
+use Rattle.rules.specs.declared.pc.Pc.{Pc}
 use Rattle.rules.specs.Cells.{address, accessed, unread, cell_at, nowhere, in_range}
 use Rattle.rules.specs.declared.Class.{Class}
 use Rattle.rules.specs.declared.Class.TheVariants.{Anything, NoCell}

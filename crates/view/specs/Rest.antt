@@ -1,7 +1,7 @@
 -- What holds of every row that the rules' words for a pass can make holds of what they make.
 use Rattle.std.specs.Prelude.{ℕ, ◌+◌, ◌-◌, eqb}
 use Rattle.rules.specs.Sizes.{Settings}
-use Rattle.rules.specs.Pc
+use Rattle.rules.specs.declared.pc.Pc.TheVariants as Pc
 use Rattle.rules.specs.Rows.{go_to, in_shard, shard_in, stolen_from}
 use Rattle.rules.specs.Places.{new_pass, checked, passed, emptied, examine_from, examined, after_free, shut_next}
 use Rattle.rules.specs.declared.Row.{Row}

@@ -12,7 +12,8 @@ use native.Mathlib.Omega.{arith}
 use Rattle.base.specs.Pick.{pick, both, is-both}
 use Rattle.rules.specs.Sizes.{records, threads, steps, row32, Settings}
 use Rattle.rules.specs.Words.{is_guarded}
-use Rattle.rules.specs.Pc.{Pc, pc_of, code}
+use Rattle.rules.specs.Pc.{pc_of, code}
+use Rattle.rules.specs.declared.pc.Pc.{Pc}
 use Rattle.rules.specs.Cells.{address, accessed, cell_at, in_range, unread}
 use Rattle.rules.specs.declared.Class.TheVariants.{Anything}
 use Rattle.rules.specs.Rows.{row_at, row_fits, first, idle}

@@ -1,7 +1,5 @@
-// Words for a listing: bytes of a line of text, the names of operations, places and cells, and what a line of a replay
-// tells.
+// Words for a listing: the names of operations, places and cells, and what an operation names.
 #![tactic(auto)]
 
 pub mod names;
-pub mod text;
 pub mod told;

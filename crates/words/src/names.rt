@@ -1,170 +1,232 @@
 // The names of operations, places and cells, and a few words on what each place is for.
-use crate::text::{nth, number, put};
-use rules::{Access, Named, Row, place};
+ghost use Rattle.std.specs.Prelude.{◌≡◌, ◌↔◌, ℕ};
+ghost use Rattle.rules.specs.declared.Access.{Access};
+ghost use Rattle.rules.specs.declared.Named.{Named};
 
-// An operation by its kind in a frame.
-pub fn operation(text: &mut [u8], at: usize, kind: u32) -> usize {
-    nth(
-        text,
-        at,
-        b"none;acquire;release;protect;try;try_protect;reset;raw;swap;retire;eager;cleanup;shutdown",
-        kind,
-    )
+use rules::kind::{Kind, NoKind};
+use rules::pc::Pc;
+use rules::{Access, Named, Operation};
+use std::fmt;
+
+// An operation by its kind in a frame, which may be none.
+pub fn operation(kind: u32) -> &'static str {
+    match Kind::try_from(kind) {
+        Ok(Kind::Acquire) => "acquire",
+        Ok(Kind::Release) => "release",
+        Ok(Kind::Protect) => "protect",
+        Ok(Kind::Try) => "try",
+        Ok(Kind::TryProtect) => "try_protect",
+        Ok(Kind::Reset) => "reset",
+        Ok(Kind::Raw) => "raw",
+        Ok(Kind::Swap) => "swap",
+        Ok(Kind::Retire) => "retire",
+        Ok(Kind::Eager) => "eager",
+        Ok(Kind::Cleanup) => "cleanup",
+        Ok(Kind::Shutdown) => "shutdown",
+        Err(NoKind(0)) => "none",
+        Err(_) => "",
+    }
 }
 
 // A place by document 01's name.
-pub fn place(text: &mut [u8], at: usize, p: u32) -> usize {
-    nth(
-        text,
-        at,
-        b"step;A1;A2;A3;A4;A5;A6;N1;N2;N3;D1;D2;P1;P2;P3;V0;V1;V2;V3;Reset;Raw;Swap;T1;T2;T3;K1;K2;\
-          K3;K4;E1;E2;E3;B1;Steal;H1;H2;Examine;Reclaim;Empty;Push1;Push2;C1;C3;Wait;S1;S2;S3",
-        p,
-    )
+pub fn place(p: Pc) -> &'static str {
+    match p {
+        Pc::Idle => "step",
+        Pc::A1 => "A1",
+        Pc::A2 => "A2",
+        Pc::A3 => "A3",
+        Pc::A4 => "A4",
+        Pc::A5 => "A5",
+        Pc::A6 => "A6",
+        Pc::N1 => "N1",
+        Pc::N2 => "N2",
+        Pc::N3 => "N3",
+        Pc::D1 => "D1",
+        Pc::D2 => "D2",
+        Pc::P1 => "P1",
+        Pc::P2 => "P2",
+        Pc::P3 => "P3",
+        Pc::V0 => "V0",
+        Pc::V1 => "V1",
+        Pc::V2 => "V2",
+        Pc::V3 => "V3",
+        Pc::Reset => "Reset",
+        Pc::Raw => "Raw",
+        Pc::Swap => "Swap",
+        Pc::T1 => "T1",
+        Pc::T2 => "T2",
+        Pc::T3 => "T3",
+        Pc::K1 => "K1",
+        Pc::K2 => "K2",
+        Pc::K3 => "K3",
+        Pc::K4 => "K4",
+        Pc::E1 => "E1",
+        Pc::E2 => "E2",
+        Pc::E3 => "E3",
+        Pc::B1 => "B1",
+        Pc::Steal => "Steal",
+        Pc::H1 => "H1",
+        Pc::H2 => "H2",
+        Pc::Examine => "Examine",
+        Pc::Reclaim => "Reclaim",
+        Pc::Empty => "Empty",
+        Pc::Push1 => "Push1",
+        Pc::Push2 => "Push2",
+        Pc::C1 => "C1",
+        Pc::C3 => "C3",
+        Pc::Wait => "Wait",
+        Pc::S1 => "S1",
+        Pc::S2 => "S2",
+        Pc::S3 => "S3",
+        Pc::Unknown => "",
+    }
 }
 
 // What a place is for.
-pub fn purpose(text: &mut [u8], at: usize, p: u32) -> usize {
-    nth(
-        text,
-        at,
-        b";look for a record;lock the list;see what is behind;take it, unlock;cut its link;check its link;\
-          take a new record;put it in the list;count the record;\
-          clear the hazard;check its link;see the list;link to the list;put it in front;\
-          read the source;announce the node;read source again;changed: withdraw;\
-          clear the hazard;set the hazard;put the node in;\
-          see the list;put it in front;count the node;\
-          see the count;are there enough?;take the count;set next due time;\
-          is it time?;set next due time;take the count;\
-          begin to reclaim;take the list;begin the scan;scan one hazard;is it guarded?;reclaim the node;\
-          is it still empty?;see the list;put kept ones back;give the rest back;end of reclaiming;\
-          wait for others;take the list;reclaim the node;clear all records",
-        p,
-    )
-}
-
-// The first of the cells below that there are several of.
-const SEVERAL: u32 = 8;
-
-// A cell's name, by its place among the names.
-fn name(c: Named) -> u32 {
-    match c {
-        Named::Nothing => 0,
-        Named::RecordHead => 1,
-        Named::HeadAvailable => 2,
-        Named::Shutdown => 3,
-        Named::RecordCount => 4,
-        Named::Count => 5,
-        Named::DueTime => 6,
-        Named::BulkReclaims => 7,
-        Named::ShardHead(k) => 8,
-        Named::Hazard(r) => 9,
-        Named::AvailableNext(r) => 10,
-        Named::RecordNext(r) => 11,
-        Named::Holder(r) => 12,
-        Named::Source(b) => 13,
-        Named::NodeNext(n) => 14,
-        Named::NodeState(n) => 15,
+pub fn purpose(p: Pc) -> &'static str {
+    match p {
+        Pc::Idle | Pc::Unknown => "",
+        Pc::A1 => "look for a record",
+        Pc::A2 => "lock the list",
+        Pc::A3 => "see what is behind",
+        Pc::A4 => "take it, unlock",
+        Pc::A5 => "cut its link",
+        Pc::A6 => "check its link",
+        Pc::N1 => "take a new record",
+        Pc::N2 => "put it in the list",
+        Pc::N3 => "count the record",
+        Pc::D1 => "clear the hazard",
+        Pc::D2 => "check its link",
+        Pc::P1 => "see the list",
+        Pc::P2 => "link to the list",
+        Pc::P3 => "put it in front",
+        Pc::V0 => "read the source",
+        Pc::V1 => "announce the node",
+        Pc::V2 => "read source again",
+        Pc::V3 => "changed: withdraw",
+        Pc::Reset => "clear the hazard",
+        Pc::Raw => "set the hazard",
+        Pc::Swap => "put the node in",
+        Pc::T1 => "see the list",
+        Pc::T2 => "put it in front",
+        Pc::T3 => "count the node",
+        Pc::K1 => "see the count",
+        Pc::K2 => "are there enough?",
+        Pc::K3 => "take the count",
+        Pc::K4 => "set next due time",
+        Pc::E1 => "is it time?",
+        Pc::E2 => "set next due time",
+        Pc::E3 => "take the count",
+        Pc::B1 => "begin to reclaim",
+        Pc::Steal => "take the list",
+        Pc::H1 => "begin the scan",
+        Pc::H2 => "scan one hazard",
+        Pc::Examine => "is it guarded?",
+        Pc::Reclaim => "reclaim the node",
+        Pc::Empty => "is it still empty?",
+        Pc::Push1 => "see the list",
+        Pc::Push2 => "put kept ones back",
+        Pc::C1 => "give the rest back",
+        Pc::C3 => "end of reclaiming",
+        Pc::Wait => "wait for others",
+        Pc::S1 => "take the list",
+        Pc::S2 => "reclaim the node",
+        Pc::S3 => "clear all records",
     }
 }
 
-// Which of the cells of that name.
-fn which(c: Named) -> u32 {
-    match c {
-        Named::ShardHead(k) => k,
-        Named::Hazard(r) => r,
-        Named::AvailableNext(r) => r,
-        Named::RecordNext(r) => r,
-        Named::Holder(r) => r,
-        Named::Source(b) => b,
-        Named::NodeNext(n) => n,
-        Named::NodeState(n) => n,
-        _ => 0,
+// What a start asks for: an operation's name and its arguments.
+#[derive(Clone, Copy)]
+pub struct Asked(pub Operation);
+
+impl fmt::Display for Asked {
+    fn fmt<W: fmt::Write>(&self, f: &mut fmt::Formatter<W>) -> fmt::Result {
+        match self.0 {
+            Operation::Acquire => f.write_str("acquire"),
+            Operation::Release { rec } => write!(f, "release record {rec}"),
+            Operation::Protect { rec, source } => {
+                write!(f, "protect record {rec} source {source}")
+            }
+            Operation::Try { rec, source, node } => {
+                write!(f, "try record {rec} source {source} node {node}")
+            }
+            Operation::TryProtect { rec, source, node } => {
+                write!(f, "try_protect record {rec} source {source} node {node}")
+            }
+            Operation::Reset { rec } => write!(f, "reset record {rec}"),
+            Operation::Raw { rec, node } => write!(f, "raw record {rec} node {node}"),
+            Operation::Swap { source, node } => write!(f, "swap source {source} node {node}"),
+            Operation::Retire { node, address } => {
+                let shard = bits::shard(address);
+                write!(f, "retire node {node} shard {shard} at 0x{address:x}")
+            }
+            Operation::Eager => f.write_str("eager"),
+            Operation::Cleanup => f.write_str("cleanup"),
+            Operation::Shutdown => f.write_str("shutdown"),
+        }
     }
 }
 
-fn cell(text: &mut [u8], at: usize, c: Named) -> usize {
-    let k = name(c);
-    let e = nth(
-        text,
-        at,
-        b";record_head;head_available;shutdown;record_count;count;due_time;nbulk_reclaims;shard;\
-          hazard;available_next;next of record;holder;source;next of node;state of node",
-        k,
-    );
-    if k < SEVERAL {
-        return e;
+// A cell's name, and which of the cells of that name it is.
+#[derive(Clone, Copy)]
+pub struct Cell(pub Named);
+
+impl fmt::Display for Cell {
+    fn fmt<W: fmt::Write>(&self, f: &mut fmt::Formatter<W>) -> fmt::Result {
+        match self.0 {
+            Named::Nothing => Ok(()),
+            Named::RecordHead => f.write_str("record_head"),
+            Named::HeadAvailable => f.write_str("head_available"),
+            Named::Shutdown => f.write_str("shutdown"),
+            Named::RecordCount => f.write_str("record_count"),
+            Named::Count => f.write_str("count"),
+            Named::DueTime => f.write_str("due_time"),
+            Named::BulkReclaims => f.write_str("nbulk_reclaims"),
+            Named::ShardHead(k) => write!(f, "shard {k}"),
+            Named::Hazard(r) => write!(f, "hazard {r}"),
+            Named::AvailableNext(r) => write!(f, "available_next {r}"),
+            Named::RecordNext(r) => write!(f, "next of record {r}"),
+            Named::Holder(r) => write!(f, "holder {r}"),
+            Named::Source(b) => write!(f, "source {b}"),
+            Named::NodeNext(n) => write!(f, "next of node {n}"),
+            Named::NodeState(n) => write!(f, "state of node {n}"),
+        }
     }
-    let f = put(text, e, b' ');
-    number(text, f, which(c) as u64)
 }
-
-// The verbs of accesses, by their place among the words.
-const LOAD: u32 = 0;
-
-const STORE: u32 = 1;
-
-const EXCHANGE: u32 = 2;
-
-const SWAP: u32 = 3;
-
-const ADD: u32 = 4;
-
-const LOWER: u32 = 5;
 
 // An access that reads and writes: which it is goes by the place.
-fn update(p: u32) -> u32 {
+fn update(p: Pc) -> &'static str {
     match p {
-        place::N3 | place::T3 | place::B1 | place::C1 => ADD,
-        place::C3 => LOWER,
-        place::SWAP | place::E3 | place::STEAL | place::S1 => SWAP,
-        _ => EXCHANGE,
+        Pc::N3 | Pc::T3 | Pc::B1 | Pc::C1 => "add to",
+        Pc::C3 => "lower",
+        Pc::Swap | Pc::E3 | Pc::Steal | Pc::S1 => "swap",
+        _ => "exchange",
     }
 }
 
-fn verb(a: Access, p: u32) -> u32 {
-    match a {
-        Access::Load(c) => LOAD,
-        Access::Store(c) => STORE,
-        Access::HazardStore(c) => STORE,
-        Access::Update(c) => update(p),
-        Access::Private(c) => LOAD,
+// What the step at a place accesses.
+#[derive(Clone, Copy)]
+pub struct Accessed {
+    pub place: Pc,
+    pub access: Access,
+}
+
+impl fmt::Display for Accessed {
+    fn fmt<W: fmt::Write>(&self, f: &mut fmt::Formatter<W>) -> fmt::Result {
+        match self.access {
+            Access::Load(c) | Access::Private(c) => write!(f, "load {}", Cell(c)),
+            Access::Store(c) | Access::HazardStore(c) => write!(f, "store {}", Cell(c)),
+            Access::Update(c) => write!(f, "{} {}", update(self.place), Cell(c)),
+        }
     }
 }
 
-fn object(a: Access) -> Named {
-    match a {
-        Access::Load(c) => c,
-        Access::Store(c) => c,
-        Access::HazardStore(c) => c,
-        Access::Update(c) => c,
-        Access::Private(c) => c,
-    }
-}
-
-// What a row's step accesses.
-pub fn access(text: &mut [u8], at: usize, row: Row) -> usize {
-    if row.place == place::IDLE {
-        return at;
-    }
-    let a = places::access(row);
-    let k = verb(a, row.place);
-    let e = nth(text, at, b"load ;store ;exchange ;swap ;add to ;lower ", k);
-    cell(text, e, object(a))
-}
-
-fn hazard_of(c: Named) -> u32 {
-    match c {
-        Named::Hazard(r) => r,
-        _ => 0,
-    }
-}
-
-// The record whose hazard a row's step stores to; 0 for none.
-pub fn hazard(row: Row) -> u32 {
-    let a = places::access(row);
-    match a {
-        Access::HazardStore(c) => hazard_of(c),
-        _ => 0,
+// The record whose hazard an access stores to.
+pub fn hazard(access: Access) -> Option<u32>
+    ensures { (r : ℕ) → result ≡ Some r ↔ access ≡ Access.HazardStore (Named.Hazard r) }
+{
+    match access {
+        Access::HazardStore(Named::Hazard(r)) => Some(r),
+        _ => None,
     }
 }

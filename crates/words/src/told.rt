@@ -1,106 +1,128 @@
-// What a line of a replay tells: a step or a start, and its arguments.
+// What an operation names, as numbers.
+ghost use Rattle.std.specs.Prelude.{◌≡◌, ◌↔◌, ℕ, Bool, IsNone};
+ghost use Rattle.frames.specs.declared.Line.{Line};
+ghost use Rattle.rules.specs.declared.Operation.{Operation};
+
 use frames::Line;
-use rules::{Operation, Row, kind};
+use rules::kind::Kind;
+use rules::{Operation, Row};
 
-pub const STEP: u32 = 0;
-
-pub const START: u32 = 1;
-
-pub const BAD: u32 = 2;
-
-// What a line asks: its form, thread, operation and arguments, and whether a weak exchange is told to fail.
+// The operation's kind in a frame, as a row holds it, and the record, source and node that it names; 0 for none.
 #[derive(Clone, Copy)]
 pub struct Told {
-    pub form: u32,
-    pub thread: u32,
     pub kind: u32,
     pub rec: u32,
     pub source: u32,
     pub node: u64,
-    pub address: u64,
-    pub flag: bool,
 }
 
-fn step(thread: u32, flag: bool) -> Told {
-    Told {
-        form: STEP,
-        thread: thread,
+impl Told {
+    pub const NOTHING: Told = Told {
         kind: 0,
         rec: 0,
         source: 0,
         node: 0,
-        address: 0,
-        flag: flag,
-    }
+    };
 }
 
-fn start(thread: u32, kind: u32, rec: u32, source: u32, node: u64, address: u64) -> Told {
-    Told {
-        form: START,
-        thread: thread,
-        kind: kind,
-        rec: rec,
-        source: source,
-        node: node,
-        address: address,
-        flag: false,
-    }
-}
-
-fn started(t: u32, o: Operation) -> Told {
-    match o {
-        Operation::Acquire => start(t, kind::ACQUIRE, 0, 0, 0, 0),
-        Operation::Release { rec } => start(t, kind::RELEASE, rec, 0, 0, 0),
-        Operation::Protect { rec, source } => start(t, kind::PROTECT, rec, source, 0, 0),
-        Operation::Try { rec, source, node } => start(t, kind::TRY, rec, source, node, 0),
-        Operation::TryProtect { rec, source, node } => {
-            start(t, kind::TRY_PROTECT, rec, source, node, 0)
+impl From<Operation> for Told {
+    fn from(o: Operation) -> Told {
+        match o {
+            Operation::Acquire => Told {
+                kind: Kind::Acquire as u32,
+                ..Told::NOTHING
+            },
+            Operation::Release { rec } => Told {
+                kind: Kind::Release as u32,
+                rec,
+                ..Told::NOTHING
+            },
+            Operation::Protect { rec, source } => Told {
+                kind: Kind::Protect as u32,
+                rec,
+                source,
+                ..Told::NOTHING
+            },
+            Operation::Try { rec, source, node } => Told {
+                kind: Kind::Try as u32,
+                rec,
+                source,
+                node,
+            },
+            Operation::TryProtect { rec, source, node } => Told {
+                kind: Kind::TryProtect as u32,
+                rec,
+                source,
+                node,
+            },
+            Operation::Reset { rec } => Told {
+                kind: Kind::Reset as u32,
+                rec,
+                ..Told::NOTHING
+            },
+            Operation::Raw { rec, node } => Told {
+                kind: Kind::Raw as u32,
+                rec,
+                node,
+                ..Told::NOTHING
+            },
+            Operation::Swap { source, node } => Told {
+                kind: Kind::Swap as u32,
+                source,
+                node,
+                ..Told::NOTHING
+            },
+            Operation::Retire { node, .. } => Told {
+                kind: Kind::Retire as u32,
+                node,
+                ..Told::NOTHING
+            },
+            Operation::Eager => Told {
+                kind: Kind::Eager as u32,
+                ..Told::NOTHING
+            },
+            Operation::Cleanup => Told {
+                kind: Kind::Cleanup as u32,
+                ..Told::NOTHING
+            },
+            Operation::Shutdown => Told {
+                kind: Kind::Shutdown as u32,
+                ..Told::NOTHING
+            },
         }
-        Operation::Reset { rec } => start(t, kind::RESET, rec, 0, 0, 0),
-        Operation::Raw { rec, node } => start(t, kind::RAW, rec, 0, node, 0),
-        Operation::Swap { source, node } => start(t, kind::SWAP, 0, source, node, 0),
-        Operation::Retire { node, address } => start(t, kind::RETIRE, 0, 0, node, address),
-        Operation::Eager => start(t, kind::EAGER, 0, 0, 0, 0),
-        Operation::Cleanup => start(t, kind::CLEANUP, 0, 0, 0, 0),
-        Operation::Shutdown => start(t, kind::SHUTDOWN, 0, 0, 0, 0),
     }
 }
 
-// What a line tells by itself.
-pub fn by_line(l: Line) -> Told {
-    match l {
-        Line::Step {
-            thread,
-            flag,
-            clock,
-        } => step(thread, flag),
-        Line::Start { thread, operation } => started(thread, operation),
-        Line::Bad => Told {
-            form: BAD,
-            thread: 0,
-            kind: 0,
-            rec: 0,
-            source: 0,
-            node: 0,
-            address: 0,
-            flag: false,
-        },
+impl From<Row> for Told {
+    fn from(row: Row) -> Told {
+        Told {
+            kind: row.operation,
+            rec: row.rec,
+            source: row.source,
+            node: u64::from(row.node),
+        }
     }
 }
 
-// A step's operation and arguments stand in its thread's row.
-pub fn in_row(w: Told, row: Row) -> Told {
-    if w.form != STEP {
-        return w;
+impl Told {
+    // What a line tells; a step's operation stands in its thread's row.
+    pub fn by_line(line: Line, row: Row) -> Told {
+        match line {
+            Line::Step { .. } => Told::from(row),
+            Line::Start { operation, .. } => Told::from(operation),
+            Line::Bad => Told::NOTHING,
+        }
     }
-    Told {
-        form: STEP,
-        thread: w.thread,
-        kind: row.operation,
-        rec: row.rec,
-        source: row.source,
-        node: row.node as u64,
-        address: 0,
-        flag: w.flag,
+}
+
+// The thread that a line is of.
+pub fn thread(line: Line) -> Option<u32>
+    ensures bad { IsNone result ↔ (line ≡ Line.Bad) }
+    ensures step { (t : ℕ) (flag : Bool) (clock : ℕ) → line ≡ Line.Step t flag clock → result ≡ Some t }
+    ensures start { (t : ℕ) (o : Operation) → line ≡ Line.Start t o → result ≡ Some t }
+{
+    match line {
+        Line::Step { thread, .. } | Line::Start { thread, .. } => Some(thread),
+        Line::Bad => None,
     }
 }

@@ -1,11 +1,11 @@
-use Rattle.frames.specs.LoopLaws.{digits_no, digits_on, digits_yes}
+use Rattle.std.proofs.Common.{rules, tests, ◌∙◌, ltb}
+use Rattle.std.proofs.lemmas.Iterator.{YieldsList-from_slice}
+use Rattle.std.proofs.lemmas.Iterator.Search.{all_from_yields_List}
+use Rattle.frames.specs.Hex.{digit_of}
+use Rattle.frames.proofs.Listed.{all_listed}
 use Rattle.frames.proofs.all_digits.Goals as goal
 
-pub returns-then-d-ge16 : goal.returns-then-d-ge16
-returns-then-d-ge16 c = search digits_no
-
-pub loop-i-preserved : goal.loop-i-preserved
-loop-i-preserved c = search digits_on
-
 pub returns : goal.returns
-returns c = search digits_yes
+returns c =
+    all_from_yields_List (λ b. ltb (digit_of b) 16) _ _ _ c.all.ensures.ran (YieldsList-from_slice _ (cc)) (λ x b q k. search (rules, tests))
+    ∙ all_listed _

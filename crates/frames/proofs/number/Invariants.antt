@@ -1,10 +1,7 @@
--- `v` is the number of the `i` digits passed, and below 16 ^ `i`.
-use Rattle.std.proofs.Common.{◌-◌, ◌<◌, ◌^◌}
-use Rattle.frames.specs.LoopLaws.{Reading}
+-- `v` is the number of the digits passed, and below 16 to their count.
+use Rattle.std.proofs.Common.{◌≡◌, ◌<◌, ◌^◌, drop}
+use Rattle.frames.specs.Hex.{number_of, number_from}
 use Rattle.frames.proofs.number.Given as goal
 
-abbrev pub invariant-loop-i : goal.invariant-loop-i
-invariant-loop-i l = (l.v < 16 ^ l.i) × Reading l.bytes l.at l.n l.i l.v
-
-abbrev pub decreases-loop-i : goal.decreases-loop-i
-decreases-loop-i l = l.n - l.i
+abbrev pub invariant-loop-b : goal.invariant-loop-b
+invariant-loop-b l = (l.v < 16 ^ l.b-index) × (number_of l.digits ≡ number_from l.v (drop l.b-index l.digits))

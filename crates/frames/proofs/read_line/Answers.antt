@@ -1,11 +1,6 @@
-use Rattle.frames.specs.LineLaws.{line_yes, line_no, line_other}
+use Rattle.std.proofs.Common.{sym, ◌∙◌}
+use Rattle.frames.proofs.FieldLaws.{fields_fit}
 use Rattle.frames.proofs.read_line.Goals as goal
 
-pub returns-then-d : goal.returns-then-d
-returns-then-d c = search line_yes
-
-pub returns-then-bytes-eq28 : goal.returns-then-bytes-eq28
-returns-then-bytes-eq28 c = search line_no
-
-pub returns : goal.returns
-returns c = search line_other
+pub framed-requires : goal.framed-requires
+framed-requires c = fields_fit _ _ c.fields_in.ensures c.if-bytes-eq28.true (sym c.all_digits.ensures ∙ c.if-all_digits.true)

@@ -1,5 +1,7 @@
-use Rattle.machine.specs.StepLaws.{gave}
+use Rattle.rules.specs.Step.{lent}
+use Rattle.machine.proofs.Given.{has-given}
 use Rattle.machine.proofs.step.give.Goals as goal
 
-pub returns : goal.returns
-returns c = gave _ _ _ _ _ _ _ _ _ _ _ _ _ _ _ c.cells_given.ensures c.store_row.ensures c.guards_given.ensures
+pub returns-clause-does : goal.returns-clause-does
+unfolding lent
+returns-clause-does c = has-given _ _ _ _ _ _ _ c.cells_given.ensures.holds c.store_row.ensures.holds c.guards_given.ensures

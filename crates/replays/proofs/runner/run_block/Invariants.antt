@@ -1,23 +1,19 @@
--- The tables and buffers keep their lengths, and what is left of the block is what is left to run.
-use Rattle.std.proofs.Common.{length, take, ◌-◌, ◌≡◌, ◌≤◌}
+-- The tables stay the caller's, and what is left of the block is what is left to run.
+use Rattle.std.proofs.Common.{length, ◌-◌, ◌≡◌, ◌≤◌}
 use Rattle.rules.specs.Sizes.{base}
-use Rattle.rules.specs.Step.{lent}
+use Rattle.tables.specs.Lent.{held, AreSame}
 use Rattle.replays.specs.BlockLaws.{Running}
 use Rattle.replays.specs.Runner.{stand}
 use Rattle.replays.proofs.runner.run_block.Given as goal
 
-abbrev pub invariant-loop-g : goal.invariant-loop-g
-invariant-loop-g l =
-    (length l.ids ≡ length l.fn.ids)
-    × (length l.next ≡ length l.fn.next)
-    × (length l.state ≡ length l.fn.state)
-    × (length l.words ≡ length l.fn.words)
-    × (length l.guards ≡ length l.fn.guards)
-    × (length l.out ≡ length l.fn.out)
-    × (l.used ≤ length l.out)
-    × (length l.bytes ≡ 29)
-    × (l.g.len ≤ 29)
-    × Running base (stand (lent l.fn.ids l.fn.next l.fn.state l.fn.words l.fn.guards) (take l.initial.g.len l.initial.bytes) l.initial.number) (stand (lent l.ids l.next l.state l.words l.guards) (take l.g.len l.bytes) l.number) l.input l.fn.out l.out l.initial.used l.used l.initial.g.at l.g.at
+abbrev pub invariant-loop-at : goal.invariant-loop-at
+invariant-loop-at l = record {
+  same : AreSame l.fn.tables l.tables;
+  long : length l.out ≡ length l.fn.out;
+  room : l.used ≤ length l.out;
+  short : length l.line ≤ 29;
+  running : Running base (stand (held l.fn.tables) l.initial.line l.initial.number) (stand (held l.tables) l.line l.number) l.input l.fn.out l.out l.initial.used l.used l.initial.at l.at;
+}
 
-abbrev pub decreases-loop-g : goal.decreases-loop-g
-decreases-loop-g l = length l.input - l.g.at
+abbrev pub decreases-loop-at : goal.decreases-loop-at
+decreases-loop-at l = length l.input - l.at

@@ -1,7 +1,10 @@
-use Rattle.starts.specs.ArmLaws.{refused-by}
-use Rattle.rules.specs.Step.{lent}
+use Rattle.base.specs.Pick.{cases}
+use Rattle.std.proofs.Common.{rules}
+use Rattle.rules.specs.Step.{fetched, lent, part}
+use Rattle.rules.specs.Cells.{address}
+use Rattle.rules.specs.Start.{refuse_of}
 use Rattle.starts.proofs.refuse.refuse.Goals as goal
 
-pub returns : goal.returns
-unfolding lent
-returns c = λ next words guards. refused-by _ _ _ _ _ _ _ c.refuse_by.ensures c.refusal.ensures c.id_from-place.ensures c.id_in-mark.ensures
+pub returns-then-place : goal.returns-then-place
+unfolding refuse_of fetched address lent part
+returns-then-place c = search (cases, rules)

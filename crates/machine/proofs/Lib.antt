@@ -1,0 +1,3 @@
+pub mod Told
+pub mod Sets
+pub mod Given

@@ -1,9 +1,0 @@
-use Rattle.std.proofs.Common.{arith, length-set}
-use Rattle.texts.specs.TextLaws.{writing_more, writing_all}
-use Rattle.texts.proofs.put.Goals as goal
-
-pub loop-k-preserved : goal.loop-k-preserved
-loop-k-preserved c = (omega arith, simp length-set (omega arith), search writing_more)
-
-pub returns : goal.returns
-returns c = search writing_all
