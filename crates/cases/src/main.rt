@@ -151,6 +151,7 @@ fn run(input: &mut Input<Stdin, 16384>, cases: &mut Cases) -> bool {
         guards: &mut guards,
     };
     let mut line = Text::<LINE>::new();
+    // No input has so many lines.
     for _ in 0..u64::MAX {
         let Some(end) = input.read_line(&mut line) else {
             break;
@@ -173,6 +174,7 @@ fn main(rt: HostRuntime) {
         stdout: rt.stdout(),
         case: None,
     };
+    // No input has so many cases.
     for _ in 0..u64::MAX {
         if !run(&mut input, &mut cases) {
             break;

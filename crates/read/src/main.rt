@@ -88,6 +88,7 @@ fn run(input: &mut Input<Stdin, 16384>, lister: &mut Lister) -> bool {
     };
     let mut steps = [0u64; 16];
     let mut line = Text::<512>::new();
+    // No input has so many lines.
     for _ in 0..u64::MAX {
         let Some(end) = input.read_line(&mut line) else {
             return false;
@@ -114,6 +115,7 @@ fn run(input: &mut Input<Stdin, 16384>, lister: &mut Lister) -> bool {
 fn main(rt: HostRuntime) {
     let mut input = Input::new(rt.stdin());
     let mut lister = Lister::new(rt.stdout());
+    // No input has so many replays.
     for _ in 0..u64::MAX {
         if !run(&mut input, &mut lister) {
             break;

@@ -24,6 +24,7 @@ fn main(rt: HostRuntime) {
     let mut stdout = rt.stdout();
     let mut out = [0u8; 21504];
     let mut kept = runner::begun(1);
+    // No input has so many blocks.
     for _ in 0..u64::MAX {
         let part = input.fill();
         let is_end = part.is_empty();

@@ -14,7 +14,8 @@ use tables::{Part, item_from, item_in};
 // The largest holder that a record's row may have; 0 is an unused row's.
 const HOLDER: u32 = THREADS + 1;
 
-// The first record row that is not taken, from 1; 0 if all are, as the rules have it (`untaken_from`).
+// The first record row that is not taken, from 1; 0 if all are, as the rules have it (`untaken_from`). By `find` the proof
+// did not close.
 fn lowest(ids: &[u32]) -> u32
     ensures { result ≡ untaken_from (part from_records (4 * records) ids.now) 0 records }
 {

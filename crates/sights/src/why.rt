@@ -78,7 +78,8 @@ impl fmt::Display for Why {
                 names::operation(operation),
                 names::place(place)
             ),
-            // A holder is a number: 0 of a row that is not taken, 1 of nobody, t + 2 of thread t.
+            // A holder is a number, which may be any where a table is damaged: 0 of a row that is not taken, 1 of nobody,
+            // t + 2 of thread t.
             Why::Record { rec, holder: 0 } => write!(f, "record {rec} is not in use"),
             Why::Record { rec, holder: 1 } => write!(f, "record {rec} is nobody's"),
             Why::Record { rec, holder } => {

@@ -92,6 +92,7 @@ impl<R: Read, const N: usize> Input<R, N> {
         ensures left { length (up_to self.old) < length self.old → (result ≡ Some End.Newline) × (line.new ≡ take L (up_to self.old)) × (self.new ≡ drop (length (up_to self.old) + 1) self.old) }
     {
         line.clear();
+        // A loop that waits on input has no other measure; no line has so many blocks.
         for _ in 0..u64::MAX {
             let block = self.fill();
             if block.is_empty() {

@@ -24,7 +24,8 @@ pub struct Lent<'a> {
     pub guards: &'a mut [u64],
 }
 
-// What a step that writes nothing has for its cell.
+// What a step that writes nothing has for its cell: with an `if` around the store the proof did not close, since the
+// borrows of both branches join behind it.
 const NOTHING: Cell = Cell {
     table: Table::Nowhere as u32,
     at: 0,
@@ -57,7 +58,8 @@ fn clear_records(ids: &mut [u32])
     }
 }
 
-// The end of a shutdown clears the records, their list and the available list.
+// The end of a shutdown clears the records, their list and the available list; the test stands here and not around the
+// call, for the same reason as above.
 fn close(ids: &mut [u32], closes: bool)
     ensures { ids.new ≡ pick closes (stored_from (slice_set (slice_set ids.old 0 0) 1 0) from_records (replicate (4 * records) 0)) ids.old }
 {

@@ -50,7 +50,7 @@ fn line_len(bytes: &[u8]) -> usize
     newline(bytes).unwrap_or(bytes.len())
 }
 
-// The decimal digits of x, at the end of the array; where they begin.
+// The decimal digits of x, at the end of the array; where they begin, so that it goes down by an index.
 fn write_digits(x: u64, out: &mut [u8; 20]) -> usize
     ensures within { result ≤ 20 }
     ensures value { drop result out.new ≡ decimal_of x }

@@ -210,6 +210,7 @@ fn main(rt: HostRuntime) {
     };
     let mut text = [0u8; runner::ANSWER];
     let mut kept = runner::begun(1);
+    // No input has so many lines.
     for _ in 0..u64::MAX {
         // Before the program waits for more input.
         if input.is_taken() {
