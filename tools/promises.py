@@ -37,7 +37,7 @@ for c in order:
             # a method's type is that of the block it stands in
             block=re.findall(r'^impl(?:<[^>]*>)? (\w+)',s[:mm.start()],flags=re.M)
             req='requires' in cl
-            ens=[e for e in re.findall(r'ensures(?: \w+)? \{ (.*) \}$',cl,flags=re.M) if not e.startswith('AreSame')]
+            ens=[e for e in re.findall(r'ensures\*?(?: \w+)? \{ (.*) \}$',cl,flags=re.M) if not e.startswith('AreSame')]
             p=' and '.join(short(e) for e in ens)
             path=f"{c}::{'' if m=='lib' else m+'::'}{block[-1]+'::' if indent else ''}{name}"
             rows.append((path,f"crates/{c}/src/{m}.rt",p,'no' if req else one(p)))
