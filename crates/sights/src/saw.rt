@@ -1,5 +1,8 @@
 // What a step that goes on saw: what it loaded, or what the thread's row after it holds of what a swap took and of what
 // became of a node.
+ghost use Rattle.std.specs.Prelude.{◌≡◌};
+ghost use Rattle.rules.specs.Pc.{pc_of};
+
 use rules::pc::Pc;
 use rules::{Access, Named, Row};
 use std::fmt;
@@ -49,7 +52,9 @@ impl Saw {
 
     // What a step saw, by its access, and its thread's row before and after it. The examined node is guarded where it
     // heads the kept list then.
-    pub fn of(tables: &Lent, access: Access, row: Row, after: Row) -> Saw {
+    pub fn of(tables: &Lent, access: Access, row: Row, after: Row) -> Saw
+        ensures { pc_of row.place ≡ Pc.S1 → result ≡ Saw.Node after.reclaimable }
+    {
         match (Pc::from(row.place), access) {
             (Pc::Steal, _) => match after.stolen.get(row.shard as usize) {
                 Some(head) => Saw::Node(u64::from(*head)),

@@ -1,5 +1,7 @@
 // Why a line was refused. Of a step that is answered NotRetirable or NoRecords, which ends its operation, the row as it
 // was before says all.
+ghost use Rattle.std.specs.Prelude.{◌≡◌, ◌<◌, true, false, length};
+
 use rows::{load_row, place};
 use rules::answer::Refusal;
 use rules::pc::Pc;
@@ -112,7 +114,11 @@ fn cell(tables: &Lent, c: Named) -> u64 {
 
 impl Why {
     // Why a step was refused.
-    pub fn of_step(thread: u32, row: Row, refusal: Refusal) -> Why {
+    pub fn of_step(thread: u32, row: Row, refusal: Refusal) -> Why
+        ensures thread { refusal ≡ Refusal.Thread → result ≡ Why.NoThread thread }
+        ensures waits { refusal ≡ Refusal.NotRetirable → result ≡ Why.NodeWaits row.node }
+        ensures idle { refusal ≡ Refusal.Idle → result ≡ Why.Idle }
+    {
         match refusal {
             Refusal::Thread => Why::NoThread(thread),
             Refusal::StepLimit => Why::StepLimit,
@@ -125,7 +131,9 @@ impl Why {
     }
 
     // Why a start was refused.
-    pub fn of_start(tables: &Lent, thread: u32, o: Operation, row: Row, refusal: Refusal) -> Why {
+    pub fn of_start(tables: &Lent, thread: u32, o: Operation, row: Row, refusal: Refusal) -> Why
+        ensures thread { refusal ≡ Refusal.Thread → result ≡ Why.NoThread thread }
+    {
         let told = Told::from(o);
         match refusal {
             Refusal::Thread => Why::NoThread(thread),
@@ -190,7 +198,11 @@ impl Why {
     }
 
     // What is wrong with a line that is none.
-    pub fn of_bytes(bytes: &[u8], is_whole: bool) -> Why {
+    pub fn of_bytes(bytes: &[u8], is_whole: bool) -> Why
+        ensures no_end { is_whole ≡ false → result ≡ Why.NoEnd }
+        ensures short { is_whole ≡ true → length bytes.now < 28 → result ≡ Why.TooShort }
+        ensures long { is_whole ≡ true → 28 < length bytes.now → result ≡ Why.TooLong }
+    {
         if !is_whole {
             return Why::NoEnd;
         }
