@@ -137,9 +137,11 @@ impl<const N: usize> Text<N> {
         }
     }
 
-    #[tactic(auto, using(crate::proofs::Digits::decimal_digit))]
+    #[tactic(auto, using(crate::proofs::Digits::decimal_digit, crate::proofs::Room::whole, crate::proofs::Room::within, crate::proofs::Room::decimal_most))]
     pub fn number(&mut self, x: u64)
-        ensures { self.new ≡ take N (self.old ++ decimal_of x) }
+        ensures text { self.new ≡ take N (self.old ++ decimal_of x) }
+        ensures whole { length self.old + 20 ≤ N → self.new ≡ self.old ++ decimal_of x }
+        ensures within { length self.new ≤ length self.old + 20 }
     {
         // Most numbers of a listing have one digit.
         if x < 10 {
@@ -151,9 +153,11 @@ impl<const N: usize> Text<N> {
     }
 
     // x stands for the signed number of the same 64 bits.
-    #[tactic(auto, unfolding(crate::specs::Texts::signed_of))]
+    #[tactic(auto, unfolding(crate::specs::Texts::signed_of), using(crate::proofs::Room::whole, crate::proofs::Room::within, crate::proofs::Room::signed_most))]
     pub fn signed(&mut self, x: u64)
-        ensures { self.new ≡ take N (self.old ++ signed_of x) }
+        ensures text { self.new ≡ take N (self.old ++ signed_of x) }
+        ensures whole { length self.old + 21 ≤ N → self.new ≡ self.old ++ signed_of x }
+        ensures within { length self.new ≤ length self.old + 21 }
     {
         let n = x.cast_signed();
         if n < 0 {
@@ -163,8 +167,11 @@ impl<const N: usize> Text<N> {
     }
 
     // A line: a name and a number.
+    #[tactic(auto, using(crate::proofs::Room::whole, crate::proofs::Room::within, crate::proofs::Room::line_most))]
     pub fn line(&mut self, name: &[u8], x: u64)
-        ensures { self.new ≡ take N (self.old ++ line_of name.now x) }
+        ensures text { self.new ≡ take N (self.old ++ line_of name.now x) }
+        ensures whole { length self.old + (length name.now + 21) ≤ N → self.new ≡ self.old ++ line_of name.now x }
+        ensures within { length self.new ≤ length self.old + (length name.now + 21) }
     {
         self.say(name);
         self.number(x);
@@ -172,8 +179,11 @@ impl<const N: usize> Text<N> {
     }
 
     // The same with a signed number.
+    #[tactic(auto, using(crate::proofs::Room::whole, crate::proofs::Room::within, crate::proofs::Room::signed_line_most))]
     pub fn signed_line(&mut self, name: &[u8], x: u64)
-        ensures { self.new ≡ take N (self.old ++ signed_line_of name.now x) }
+        ensures text { self.new ≡ take N (self.old ++ signed_line_of name.now x) }
+        ensures whole { length self.old + (length name.now + 22) ≤ N → self.new ≡ self.old ++ signed_line_of name.now x }
+        ensures within { length self.new ≤ length self.old + (length name.now + 22) }
     {
         self.say(name);
         self.signed(x);
@@ -181,8 +191,11 @@ impl<const N: usize> Text<N> {
     }
 
     // A line: a name, the number of what it names, a field of that and its content.
+    #[tactic(auto, using(crate::proofs::Room::whole, crate::proofs::Room::within, crate::proofs::Room::field_line_most))]
     pub fn field_line(&mut self, name: &[u8], id: u64, field: &[u8], x: u64)
-        ensures { self.new ≡ take N (self.old ++ field_line_of name.now id field.now x) }
+        ensures text { self.new ≡ take N (self.old ++ field_line_of name.now id field.now x) }
+        ensures whole { length self.old + (length name.now + length field.now + 41) ≤ N → self.new ≡ self.old ++ field_line_of name.now id field.now x }
+        ensures within { length self.new ≤ length self.old + (length name.now + length field.now + 41) }
     {
         self.say(name);
         self.number(id);
