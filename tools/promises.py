@@ -14,6 +14,7 @@ def short(e):
     for side, mark in (('(?:old|now)', ''), ('new', '′')):
         five = ' '.join(rf'{t}\.{side}' for t in ('ids', 'next', 'state', 'words', 'guards'))
         e=re.sub(rf'\(lent {five}\)|lent {five}|\(held \w+\.{side}\)|held \w+\.{side}','S'+mark,e)
+    e=re.sub(r'\(shown \w+\.entry\)|shown \w+\.entry','S',e)
     e=re.sub(r'\b(\w+)\.(?:old|now)\b',r'\1',e); e=re.sub(r'\b(\w+)\.new\b',r'\1′',e)
     e=re.sub(r'\((\w+′?)\)',r'\1',e)
     return e.strip()

@@ -11,7 +11,7 @@ use sights::saw::Saw;
 use sights::why::Why;
 use std::fmt;
 use std::fmt::Write;
-use tables::{Lent, address};
+use tables::{Readable, address};
 use texts::Text;
 use words::names;
 use words::names::{Accessed, Asked};
@@ -176,7 +176,7 @@ impl Ran<'_> {
     }
 
     // Why the line was refused.
-    fn why(&self, tables: &Lent, refusal: Refusal) -> Why {
+    fn why(&self, tables: Readable, refusal: Refusal) -> Why {
         match self.line {
             Line::Bad => Why::of_bytes(self.bytes, self.is_whole),
             Line::Start { thread, operation } => {
@@ -188,7 +188,7 @@ impl Ran<'_> {
 
     // What the line was answered. Of a step, where it goes on and what it saw; of a refusal that ends an operation, how
     // many steps that took.
-    fn say_answer(&self, tables: &Lent, text: &mut Text<LISTED>) -> fmt::Result {
+    fn say_answer(&self, tables: Readable, text: &mut Text<LISTED>) -> fmt::Result {
         let steps = Steps(self.steps);
         match self.answer {
             Ok(Outcome::Stepped) => {
@@ -215,7 +215,7 @@ impl Ran<'_> {
 
     // One line of the listing. A refusal changes nothing, and what a step loads it leaves, so that the tables behind the
     // line show what it saw.
-    pub fn listed(&self, tables: &Lent) -> Text<LISTED> {
+    pub fn listed(&self, tables: Readable) -> Text<LISTED> {
         let mut text = Text::new();
         text.say(self.question().as_bytes());
         right(
@@ -231,7 +231,7 @@ impl Ran<'_> {
     }
 
     // One line of numbers.
-    pub fn number_line<const N: usize>(&self, tables: &Lent, text: &mut Text<N>) {
+    pub fn number_line<const N: usize>(&self, tables: Readable, text: &mut Text<N>) {
         let told = Told::by_line(self.line, self.row);
         let answer = self.numbered();
         let form = match self.line {

@@ -30,7 +30,7 @@ pub fn start(tables: &mut Lent, t: u32, o: Operation) -> Result<Outcome, Refusal
     ensures same { AreSame tables.old tables.new }
 {
     admit(tables, t)?;
-    refuse(tables, t, o)?;
+    refuse(tables.readable(), t, o)?;
     let e = begin(o);
     if of_null(e) {
         return Ok(Outcome::Done(0));

@@ -64,7 +64,7 @@ fn ready(tables: &Lent, t: u32) -> Result<(), Refusal>
     if counter(tables.words, STEPS_TAKEN) >= STEPS {
         return Err(Refusal::StepLimit);
     }
-    if rows::place(tables, t) == Pc::Idle as u32 {
+    if rows::place(tables.readable(), t) == Pc::Idle as u32 {
         return Err(Refusal::Idle);
     }
     Ok(())
@@ -104,7 +104,7 @@ fn take(tables: &mut Lent, turn: Turn) -> Result<Outcome, Refusal>
     ensures does { out (answer_of result) (held tables.new) ≡ take_of base (held tables.old) turn.thread turn.flag turn.clock }
     ensures same { AreSame tables.old tables.new }
 {
-    let r = rows::load_row(tables, turn.thread);
+    let r = rows::load_row(tables.readable(), turn.thread);
     let c = accessed(places::access(r));
     let e = look(tables, turn, r);
     if e.number == Refusal::OutOfRange as u32 {

@@ -3,7 +3,7 @@ use crate::options::Options;
 use listings::Ran;
 use std::io::Stdout;
 use streams::Output;
-use tables::Lent;
+use tables::Readable;
 use texts::Text;
 use words::told::thread;
 
@@ -128,7 +128,7 @@ impl Lister {
     }
 
     // A line that was run is written.
-    pub fn report(&mut self, ran: &Ran, tables: &Lent) {
+    pub fn report(&mut self, ran: &Ran, tables: Readable) {
         if self.is_shown(ran) {
             if self.options.data {
                 self.out.room(ROOM);

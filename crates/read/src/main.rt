@@ -55,7 +55,7 @@ fn run_line<'a>(
     is_whole: bool,
 ) -> Ran<'a> {
     let line = replays::line_in(bytes, is_whole);
-    let row = load_row(tables, thread(line).unwrap_or(0));
+    let row = load_row(tables.readable(), thread(line).unwrap_or(0));
     let answer = match replays::reply_to(tables, number, line) {
         Reply::Thread { answer, .. } => answer,
         Reply::Bad { .. } => Err(Refusal::NoOperation),
@@ -105,7 +105,7 @@ fn run(input: &mut Input<Stdin, 16384>, lister: &mut Lister) -> bool {
             bytes => {
                 let is_whole = end == End::Newline;
                 let ran = run_line(&mut tables, &mut steps, lister.number(), bytes, is_whole);
-                lister.report(&ran, &tables);
+                lister.report(&ran, tables.readable());
             }
         }
     }

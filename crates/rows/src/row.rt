@@ -4,12 +4,12 @@ ghost use Rattle.rules.specs.Sizes.{base, counter_cells, from_rows, row32};
 ghost use Rattle.rules.specs.Rows.{row_at, row_fits};
 ghost use Rattle.rows.specs.CopyLaws.{stores};
 ghost use Rattle.rows.specs.RowLaws.{with_row};
-ghost use Rattle.tables.specs.Lent.{held, AreSame};
+ghost use Rattle.tables.specs.Lent.{held, shown, AreSame};
 
 use rules::kind::Kind;
 use rules::pc::Pc;
 use rules::{COUNTER_CELLS, Done, FROM_ROWS, NODES, RECORDS, Row, SHARDS, SOURCES};
-use tables::{Lent, Word, item_from, put};
+use tables::{Lent, Readable, Word, item_from, put};
 
 // The words of a row in each of its tables.
 pub const ROW32: usize = 21;
@@ -18,16 +18,16 @@ pub const ROW64: usize = 5;
 
 // The place of a thread; 0, which is that of an idle one, past the table's end.
 #[tactic(auto, unfolding(rules::specs::Step::lent))]
-pub fn place(tables: &Lent, t: u32) -> u32
-    ensures { result ≡ slice_index (held tables.now).rows32 (t * row32) }
+pub fn place(tables: Readable, t: u32) -> u32
+    ensures { result ≡ slice_index (shown tables.entry).rows32 (t * row32) }
 {
     item_from(tables.ids, FROM_ROWS, t as usize * ROW32)
 }
 
 // A thread's row; the words past a table's end are 0.
 #[tactic(auto, unfolding(rules::specs::Rows::row_at, rules::specs::Step::lent))]
-pub fn load_row(tables: &Lent, t: u32) -> Row
-    ensures { result ≡ row_at (held tables.now).rows32 (held tables.now).rows64 t }
+pub fn load_row(tables: Readable, t: u32) -> Row
+    ensures { result ≡ row_at (shown tables.entry).rows32 (shown tables.entry).rows64 t }
 {
     let b = t as usize * ROW32;
     let d = t as usize * ROW64;

@@ -6,7 +6,7 @@ ghost use Rattle.rules.specs.Pc.{pc_of};
 use rules::pc::Pc;
 use rules::{Access, Named, Row};
 use std::fmt;
-use tables::{Lent, address};
+use tables::{Readable, address};
 
 #[derive(Clone, Copy)]
 pub enum Saw {
@@ -52,7 +52,7 @@ impl Saw {
 
     // What a step saw, by its access, and its thread's row before and after it. The examined node is guarded where it
     // heads the kept list then.
-    pub fn of(tables: &Lent, access: Access, row: Row, after: Row) -> Saw
+    pub fn of(tables: Readable, access: Access, row: Row, after: Row) -> Saw
         ensures { pc_of row.place ≡ Pc.S1 → result ≡ Saw.Node after.reclaimable }
     {
         match (Pc::from(row.place), access) {

@@ -7,7 +7,7 @@ use rules::answer::Refusal;
 use rules::pc::Pc;
 use rules::{Mark, Named, NodeState, Operation, RECORDS, Row, SOURCES, THREADS};
 use std::fmt;
-use tables::{Lent, address, cut};
+use tables::{Readable, address, cut};
 use words::names;
 use words::told::Told;
 
@@ -108,7 +108,7 @@ impl fmt::Display for Why {
     }
 }
 
-fn cell(tables: &Lent, c: Named) -> u64 {
+fn cell(tables: Readable, c: Named) -> u64 {
     tables.fetch(address(c))
 }
 
@@ -131,7 +131,7 @@ impl Why {
     }
 
     // Why a start was refused.
-    pub fn of_start(tables: &Lent, thread: u32, o: Operation, row: Row, refusal: Refusal) -> Why
+    pub fn of_start(tables: Readable, thread: u32, o: Operation, row: Row, refusal: Refusal) -> Why
         ensures thread { refusal ≡ Refusal.Thread → result ≡ Why.NoThread thread }
     {
         let told = Told::from(o);
@@ -156,7 +156,7 @@ impl Why {
     }
 
     // The record, and whose it is.
-    fn of_record(tables: &Lent, rec: u32) -> Why {
+    fn of_record(tables: Readable, rec: u32) -> Why {
         if rec == 0 || RECORDS < rec {
             Why::NoRecord(rec)
         } else {
@@ -168,7 +168,7 @@ impl Why {
     }
 
     // What keeps a node from being retired.
-    fn of_node(tables: &Lent, node: u64) -> Why {
+    fn of_node(tables: Readable, node: u64) -> Why {
         let state = cell(tables, Named::NodeState(cut(node)));
         let source = if state == NodeState::Live as u64 {
             (1..=SOURCES).find(|b| cell(tables, Named::Source(*b)) == node)
@@ -183,7 +183,7 @@ impl Why {
     }
 
     // What a shutdown has to wait for.
-    fn of_shutdown(tables: &Lent) -> Why {
+    fn of_shutdown(tables: Readable) -> Why {
         if let Some(thread) = (0..THREADS).find(|t| place(tables, *t) != Pc::Idle as u32) {
             return Why::InUse {
                 thread,

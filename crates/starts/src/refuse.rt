@@ -4,12 +4,12 @@ ghost use Rattle.rules.specs.Answers.{refusal_of};
 ghost use Rattle.rules.specs.Start.{or_else, not_owned, not_source, not_node, not_retirable, busy, refusal, refuse_of};
 ghost use Rattle.rules.specs.Step.{part};
 ghost use Rattle.rules.specs.Sizes.{records, sources, from_sources, from_records, from_rows};
-ghost use Rattle.tables.specs.Lent.{held};
+ghost use Rattle.tables.specs.Lent.{shown};
 
 use rules::answer::Refusal;
 use rules::pc::Pc;
 use rules::{Holder, Mark, NODES, Named, NodeState, Operation, SOURCES};
-use tables::{Lent, Part, Table, address, at_in, item, item_in};
+use tables::{Part, Readable, Table, address, at_in, item, item_in};
 
 // A node is narrowed after it was compared.
 pub use tables::cut;
@@ -113,8 +113,8 @@ fn refusal(ids: &[u32], state: &[u32], t: u32, o: Operation) -> Result<(), Refus
 
 // The refusal of a start. A damaged shutdown mark comes last.
 #[tactic(auto, unfolding(rules::specs::Start::refuse_of, rules::specs::Step::fetched, rules::specs::Cells::address, rules::specs::Step::lent, rules::specs::Step::part))]
-pub fn refuse(tables: &Lent, t: u32, o: Operation) -> Result<(), Refusal>
-    ensures { refusal_of result ≡ refuse_of (held tables.now) t o }
+pub fn refuse(tables: Readable, t: u32, o: Operation) -> Result<(), Refusal>
+    ensures { refusal_of result ≡ refuse_of (shown tables.entry) t o }
 {
     let mark = tables.fetch(address(Named::Shutdown));
     if mark == Mark::Closing as u64 || mark == Mark::Closed as u64 {

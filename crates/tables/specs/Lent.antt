@@ -2,10 +2,15 @@
 use Rattle.std.specs.Prelude.{◌≡◌}
 use Rattle.rules.specs.Step.{State, lent}
 use Rattle.tables.specs.declared.lent.Lent.{Lent}
+use Rattle.tables.specs.declared.lent.Readable.{Readable}
 
 -- what they hold
 abbrev pub held : Lent → State
 held l = lent l.ids.now l.next.now l.state.now l.words.now l.guards.now
+
+-- the same of those that are only read
+abbrev pub shown : Readable → State
+shown s = lent s.ids.now s.next.now s.state.now s.words.now s.guards.now
 
 -- they are the caller's same tables, whatever they hold
 pub record AreSame (l m : Lent) : Type 0 where

@@ -9,7 +9,7 @@ ghost use Rattle.rules.specs.Words.{plus};
 ghost use Rattle.tables.specs.PartLaws.{on_cells};
 ghost use Rattle.tables.specs.CellLaws.{ids_put};
 ghost use Rattle.tables.specs.Tables.{number_of};
-ghost use Rattle.tables.specs.Lent.{held, AreSame};
+ghost use Rattle.tables.specs.Lent.{held, shown, AreSame};
 
 use crate::cells::{Table, address, at_in};
 use crate::items::{Part, STEPS_TAKEN, cut, item, item_in, put, put_in};
@@ -22,6 +22,16 @@ pub struct Lent<'a> {
     pub state: &'a mut [u32],
     pub words: &'a mut [u64],
     pub guards: &'a mut [u64],
+}
+
+// The same as what only reads them takes: a caller shares them, and who has not all of them shares those that are read.
+#[derive(Clone, Copy)]
+pub struct Readable<'a> {
+    pub ids: &'a [u32],
+    pub next: &'a [u32],
+    pub state: &'a [u32],
+    pub words: &'a [u64],
+    pub guards: &'a [u64],
 }
 
 // What a step that writes nothing has for its cell: with an `if` around the store the proof did not close, since the
@@ -78,11 +88,11 @@ fn tick(words: &mut [u64])
     put(words, at, item(words, at).wrapping_add(1));
 }
 
-impl Lent<'_> {
+impl Readable<'_> {
     // The cell's content.
     #[tactic(auto, unfolding(rules::specs::Step::fetched, rules::specs::Step::lent, rules::specs::Step::part))]
-    pub fn fetch(&self, c: Cell) -> u64
-        ensures { result ≡ fetched (held self.now).cells c }
+    pub fn fetch(self, c: Cell) -> u64
+        ensures { result ≡ fetched (shown self.entry).cells c }
     {
         let at = c.at as usize;
         match Table::from(c.table) {
@@ -94,6 +104,28 @@ impl Lent<'_> {
             Table::Next => item(self.next, at) as u64,
             Table::State => item(self.state, at) as u64,
         }
+    }
+}
+
+impl Lent<'_> {
+    // The tables for what only reads them.
+    pub fn readable(&self) -> Readable<'_>
+        ensures { shown result ≡ held self.now }
+    {
+        Readable {
+            ids: self.ids,
+            next: self.next,
+            state: self.state,
+            words: self.words,
+            guards: self.guards,
+        }
+    }
+
+    // The cell's content.
+    pub fn fetch(&self, c: Cell) -> u64
+        ensures { result ≡ fetched (held self.now).cells c }
+    {
+        self.readable().fetch(c)
     }
 
     // The cell becomes v. The rules' `written` is this: a store to each table, at the cell's place or past its end.

@@ -7,4 +7,4 @@ pub mod lent;
 
 pub use cells::{Table, accessed, address, at_in, in_range};
 pub use items::{Part, STEPS_TAKEN, Word, counter, cut, item, item_from, item_in, put};
-pub use lent::Lent;
+pub use lent::{Lent, Readable};
