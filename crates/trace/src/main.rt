@@ -2,6 +2,8 @@
 // library's; this compares the tables with what they held before, and moves bytes.
 #![tactic(auto)]
 
+ghost use Rattle.std.specs.Prelude.{◌≡◌, ◌+◌, ◌-◌, ◌≤◌, ◌<◌, length, drop};
+
 use machine::step::{GUARD_WORDS, IDS, NODE_CELLS, SUMS};
 use replays::runner;
 use rules::{FROM_RECORDS, FROM_ROWS, FROM_SOURCES};
@@ -36,6 +38,14 @@ struct Trace {
     out: Output<Stdout, BUFFER>,
 }
 
+// Where the block that begins at `at` ends: not behind `to`.
+fn block_end(at: usize, to: usize) -> usize
+    ensures behind { at ≤ to → at ≤ result }
+    ensures within { result ≤ to }
+{
+    to.min(at.saturating_add(BLOCK))
+}
+
 // Whether two runs of cells differ. All are compared, which takes less than to stop at the first that does.
 fn is_apart(cells: &[u32], seen: &[u32]) -> bool {
     let mut bits = 0;
@@ -54,10 +64,14 @@ fn differs(cells: &[u32], seen: &[u32], at: usize, end: usize) -> bool {
     }
 }
 
+// Each line takes at most ROOM bytes and is written only where there is so much room: a text cuts what finds none.
 impl Trace {
     // Head i holds x. The shutdown mark is not written. Heads, words and counters go by number: where a cell stands in its
     // table is what a comparison gives.
-    fn head_line(&mut self, i: usize, x: u64) {
+    fn head_line(&mut self, i: usize, x: u64)
+        requires { length self.old.out.text + 128 ≤ 65536 }
+        ensures { length self.new.out.text ≤ length self.old.out.text + 128 }
+    {
         match i {
             0 => self.out.text.line(b" record_head ", x),
             1 => self.out.text.line(b" head_available ", x),
@@ -67,7 +81,10 @@ impl Trace {
     }
 
     // Word k of a record holds x. Its holder is not written.
-    fn record_line(&mut self, record: u64, k: usize, x: u64) {
+    fn record_line(&mut self, record: u64, k: usize, x: u64)
+        requires { length self.old.out.text + 128 ≤ 65536 }
+        ensures { length self.new.out.text ≤ length self.old.out.text + 128 }
+    {
         match k {
             0 => self
                 .out
@@ -83,7 +100,10 @@ impl Trace {
     }
 
     // Word i of the table of ids holds x.
-    fn id_line(&mut self, i: usize, x: u64) {
+    fn id_line(&mut self, i: usize, x: u64)
+        requires { length self.old.out.text + 128 ≤ 65536 }
+        ensures { length self.new.out.text ≤ length self.old.out.text + 128 }
+    {
         match i {
             0..FROM_SOURCES => self.head_line(i, x),
             FROM_SOURCES..FROM_RECORDS => {
@@ -98,7 +118,10 @@ impl Trace {
     }
 
     // Counter i holds x. The steps taken are not written.
-    fn counter_line(&mut self, i: usize, x: u64) {
+    fn counter_line(&mut self, i: usize, x: u64)
+        requires { length self.old.out.text + 128 ≤ 65536 }
+        ensures { length self.new.out.text ≤ length self.old.out.text + 128 }
+    {
         match i {
             0 => self.out.text.line(b" record_count ", x),
             1 => self.out.text.signed_line(b" count ", x),
@@ -108,7 +131,10 @@ impl Trace {
         }
     }
 
-    fn cell_line(&mut self, cells: Cells, i: usize, x: u64) {
+    fn cell_line(&mut self, cells: Cells, i: usize, x: u64)
+        requires { length self.old.out.text + 128 ≤ 65536 }
+        ensures { length self.new.out.text ≤ length self.old.out.text + 128 }
+    {
         let node = (i as u64).wrapping_add(1);
         match cells {
             Cells::Ids => self.id_line(i, x),
@@ -127,31 +153,36 @@ impl Trace {
     }
 
     // Cell i may have changed.
-    fn change(&mut self, cells: Cells, now: &[u32], i: usize) {
-        if let (Some(x), Some(y)) = (now.get(i), self.seen(cells).get_mut(i))
-            && *x != *y
+    fn change(&mut self, cells: Cells, now: &[u32], i: usize)
+        requires { i < length now.now }
+    {
+        let x = now[i];
+        if let Some(y) = self.seen(cells).get_mut(i)
+            && *y != x
         {
-            *y = *x;
+            *y = x;
             self.out.room(ROOM);
-            self.cell_line(cells, i, u64::from(*x));
+            self.cell_line(cells, i, u64::from(x));
         }
     }
 
     // The ids from `from` to `to` that differ from what was seen.
     fn id_changes(&mut self, ids: &[u32], from: usize, to: usize) {
-        for at in (from..to).step_by(BLOCK) {
-            let end = to.min(at.saturating_add(BLOCK));
-            if differs(ids, &self.ids, at, end) {
+        let part = &ids[..to.min(ids.len())];
+        for at in (from..part.len()).step_by(BLOCK) {
+            let end = block_end(at, part.len());
+            if differs(part, &self.ids, at, end) {
                 for i in at..end {
-                    self.change(Cells::Ids, ids, i);
+                    self.change(Cells::Ids, part, i);
                 }
             }
         }
     }
 
     fn node_changes(&mut self, next: &[u32], state: &[u32]) {
-        for at in (0..NODE_CELLS).step_by(BLOCK) {
-            let end = at.saturating_add(BLOCK);
+        let cells = next.len().min(state.len());
+        for at in (0..cells).step_by(BLOCK) {
+            let end = block_end(at, cells);
             if differs(next, &self.next, at, end) || differs(state, &self.state, at, end) {
                 for i in at..end {
                     self.change(Cells::Next, next, i);
@@ -181,7 +212,11 @@ impl Trace {
         self.node_changes(tables.next, tables.state);
     }
 
-    fn answer(&mut self, text: &[u8]) {
+    // An answer stands whole at the end of the output.
+    fn answer(&mut self, text: &[u8])
+        requires { length text.now ≤ 128 }
+        ensures { drop (length self.new.out.text - length text.now) self.new.out.text ≡ text.now }
+    {
         self.out.room(ROOM);
         self.out.text.say(text);
     }
